@@ -1,0 +1,6 @@
+use mathlib.Core.Path.{_≡_}
+use lib.ListN.{length}
+use Rattle.code.proofs.block.add_found.Given as given
+
+abbrev pub Inv-loop-s : given.InvT-loop-s
+Inv-loop-s g l = length (l .sums) ≡ length (l .entry .sums)

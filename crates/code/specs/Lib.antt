@@ -1,0 +1,4 @@
+pub mod Rules
+pub mod Sizes
+pub mod Made
+pub mod Checks

@@ -1,0 +1,75 @@
+// Why a call of this project was refused: one list of numbered refusals.
+ghost use mathlib.Core.Path.{_≡_};
+ghost use Rattle.refusal.specs.Numbers.{numberOf};
+use std::fmt;
+
+#[derive(Clone, Copy, PartialEq, Eq, Debug)]
+pub enum Refusal {
+    // 1: the rows of a packet are not the width of the arithmetic.
+    OtherWidth,
+    // 2: there are no source positions, no parity positions, or more than 32 of the latter.
+    BadCounts,
+    // 3: the block has more positions than the field has nonzero elements.
+    TooLong,
+    // 4: the number of blocks or of words in a row is out of its range.
+    BadSize,
+    // 5: the run at this place, counted from 0, has not its number of words.
+    WrongRun { place: usize },
+    // 6: the lost positions do not ascend, or one is outside the block.
+    BadLosses,
+    // 7: fewer packets are left than a block has source positions.
+    TooFew,
+    // 8: no codeword has the packets that are left: the lowest sum that is not zero, and its first word that is not.
+    Contradictory { sum: usize, word: usize },
+}
+
+impl Refusal {
+    // The number by which a refusal is known outside the program.
+    pub fn number(&self) -> u32
+        ensures { λ r. ⌜ r ≡ numberOf (now (self .entry)) ⌝ }
+    {
+        match self {
+            Refusal::OtherWidth => 1,
+            Refusal::BadCounts => 2,
+            Refusal::TooLong => 3,
+            Refusal::BadSize => 4,
+            Refusal::WrongRun { .. } => 5,
+            Refusal::BadLosses => 6,
+            Refusal::TooFew => 7,
+            Refusal::Contradictory { .. } => 8,
+        }
+    }
+}
+
+pub impl fmt::Display for Refusal as RefusalDisplay {
+    fn fmt<W: fmt::Write>(&self, f: &mut fmt::Formatter<W>) -> fmt::Result {
+        let number = self.number();
+        match self {
+            Refusal::OtherWidth => write!(
+                f,
+                "{number}: the packets have other rows than the arithmetic has bits"
+            ),
+            Refusal::BadCounts => write!(
+                f,
+                "{number}: the counts of source and parity positions do not fit"
+            ),
+            Refusal::TooLong => write!(f, "{number}: a block is too long for this field"),
+            Refusal::BadSize => write!(f, "{number}: too many or no blocks, or words in a row"),
+            Refusal::WrongRun { place } => write!(
+                f,
+                "{number}: run {place} has not its number of words"
+            ),
+            Refusal::BadLosses => write!(
+                f,
+                "{number}: the lost positions do not ascend within the block"
+            ),
+            Refusal::TooFew => write!(f, "{number}: too few packets are left"),
+            Refusal::Contradictory { sum, word } => {
+                write!(
+                    f,
+                    "{number}: the packets contradict each other at sum {sum}, word {word}"
+                )
+            }
+        }
+    }
+}
