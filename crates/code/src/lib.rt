@@ -5,3 +5,5 @@ mod packet;
 pub mod shape;
 mod solver;
 mod sums;
+#[cfg(test)]
+mod tests;

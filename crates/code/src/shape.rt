@@ -2,6 +2,7 @@
 ghost use Prim.Native.Nat.{_-_, _^_, _<_, _≤_};
 
 pub mod make;
+pub mod sizes;
 
 // Rows in a packet, positions in a block, source positions among them, blocks, and words in a row.
 #[derive(Clone, Copy)]

@@ -1,6 +1,7 @@
 // Why a call of this project was refused: one list of numbered refusals.
 ghost use mathlib.Core.Path.{_≡_};
 ghost use Rattle.refusal.specs.Numbers.{numberOf};
+use std::error::Error;
 use std::fmt;
 
 #[derive(Clone, Copy, PartialEq, Eq, Debug)]
@@ -73,3 +74,5 @@ pub impl fmt::Display for Refusal as RefusalDisplay {
         }
     }
 }
+
+pub impl Error for Refusal as RefusalError {}

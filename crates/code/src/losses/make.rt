@@ -54,7 +54,7 @@ impl LossList {
     }
 
     // The parity positions of a shape.
-    pub fn parity(shape: &Shape) -> LossList
+    pub(crate) fn parity(shape: &Shape) -> LossList
         ensures len { λ r. ⌜ r .len ≡ now (shape .entry) .positions - now (shape .entry) .sources ⌝ }
         ensures at { λ r. ⌜ ((s : ℕ) → s < r .len → getD (r .at) s 0 ≡ s) ⌝ }
     {
@@ -68,7 +68,7 @@ impl LossList {
         }
     }
 
-    pub fn contains(&self, position: usize) -> bool {
+    pub(crate) fn contains(&self, position: usize) -> bool {
         self.positions().contains(&position)
     }
 

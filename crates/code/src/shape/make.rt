@@ -52,15 +52,9 @@ impl Shape {
 
     pub fn sources(&self) -> usize
         ensures value { λ r. ⌜ r ≡ now (self .entry) .sources ⌝ }
-        ensures bound { λ r. ⌜ r ≤ 1023 ⌝ }
+        ensures bounds { λ r. ⌜ (1 ≤ r) × (r ≤ 1023) ⌝ }
     {
         self.sources
-    }
-
-    pub fn parity(&self) -> usize
-        ensures { λ r. ⌜ r ≡ now (self .entry) .positions - now (self .entry) .sources ⌝ }
-    {
-        self.positions - self.sources
     }
 
     pub fn blocks(&self) -> usize
@@ -73,12 +67,5 @@ impl Shape {
         ensures { λ r. ⌜ r ≡ now (self .entry) .words ⌝ }
     {
         self.words
-    }
-
-    // How many words a packet has.
-    pub fn packet(&self) -> usize
-        ensures { λ r. ⌜ r ≡ now (self .entry) .rows * now (self .entry) .words ⌝ }
-    {
-        self.rows * self.words
     }
 }

@@ -8,5 +8,5 @@ use Rattle.code.proofs.block.add_found.Needs as need
 pub part-copy-from-slice-end : need.part-copy-from-slice-end
 part-copy-from-slice-end g c =
     let lt : c .loop-s .s < c .args .shape .now .positions - c .args .shape .now .sources = let k = c .pre .count in let t = c .loop-s-test .taken in omega arith in
-    let h = part-ends (c .loop-s .s) _ (c .packet-p .result) refl (c .packet-p .ensures) (c .loop-s .inv ∙ c .pre .sums) lt in
+    let h = part-ends (c .loop-s .s) _ (c .packet-p .result) refl (c .packet-p .ensures .value) (c .loop-s .inv ∙ c .pre .sums) lt in
     search needs

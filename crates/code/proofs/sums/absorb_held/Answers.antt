@@ -5,5 +5,5 @@ use Rattle.code.proofs.sums.absorb_held.Needs as need
 
 pub part-absorb-end : need.part-absorb-end
 part-absorb-end g c =
-    let h = part-ends (c .loop-i .i) _ (c .packet-p .result) refl (c .packet-p .ensures) (c .pre .run) (c .loop-i-test .taken) in
+    let h = part-ends (c .loop-i .i) _ (c .packet-p .result) refl (c .packet-p .ensures .value) (c .pre .run) (c .loop-i-test .taken) in
     search needs

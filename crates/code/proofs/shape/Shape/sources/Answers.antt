@@ -6,5 +6,8 @@ use Rattle.code.proofs.shape.Shape.sources.Needs as need
 
 pub returns : need.returns
 returns c =
-    let top : 2 ^ c .args .self .now .rows ≤ 2 ^ 10 = pow-mono (c .args .self .now .field .1) in
-    record { value = refl; bound = let h = c .args .self .now .length in let k = c .args .self .now .counts in omega arith }
+    let s = c .args .self .now in
+    let top : 2 ^ s .rows ≤ 2 ^ 10 = pow-mono (s .field .1) in
+    let h = s .length in
+    let k = s .counts in
+    record { value = refl; bounds = (k .0, omega arith) }
