@@ -1,33 +1,34 @@
--- What is checked before a block call does its work.
+-- What block calls check before they do their work.
 use mathlib.Core.Path.{_≡_}
-use mathlib.Core.List.{List}
-use Prim.Native.Nat.{ℕ, _<_, _≤_}
-use Rattle.std.specs.declared.result.Result.{Result}
-use Rattle.std.specs.declared.result.Result.the-variants.{Ok, Err}
-use Rattle.refusal.specs.declared.Refusal.{Refusal}
-use Rattle.refusal.specs.declared.Refusal.the-variants.{OtherWidth, BadCounts, TooLong, BadSize, WrongRun, BadLosses, TooFew, Contradictory}
+use mathlib.Core.Bool.{Bool, true, cond, _&&_}
+use mathlib.Core.List.{List, [], _∷_}
+use Prim.Native.Nat.{ℕ, zero, suc, _+_, _*_, _<_, _≤_}
+use lib.Dec.{eqb, ltb, leb}
+use lib.ListN.{length}
+use Rattle.std.specs.declared.option.Option.{Option}
+use Rattle.std.specs.declared.option.Option.the-variants.{Some, None}
 use Rattle.code.specs.declared.shape.Shape.{Shape}
 use Rattle.code.specs.declared.losses.LossList.{LossList}
-use Rattle.code.specs.Sizes.{parityOf, Packets, LostBelow}
+use Rattle.code.specs.Sizes.{parityOf, packetOf, lost}
 
-abbrev pub WidthChecked : Shape → ℕ → Result (Unit {0}) Refusal → Type 0
-WidthChecked s bits (Ok u) = s .rows ≡ bits
-WidthChecked s bits (Err e) = (s .rows ≡ bits → ⊥) × (e ≡ OtherWidth)
+-- refusal 1, unless the rows of the shape are the width of the arithmetic
+abbrev pub widthRefusal : ℕ → Shape → Option (ℕ × List ℕ)
+widthRefusal bits s = cond (eqb (s .rows) bits) None (Some (1, []))
 
-abbrev pub Sized : Shape → ℕ → List ℕ → ℕ → Result (Unit {0}) Refusal → Type 0
-Sized s packets run place (Ok u) = Packets s packets run
-Sized s packets run place (Err e) = (Packets s packets run → ⊥) × (e ≡ WrongRun place)
+-- refusal 5 with the place of a run, unless the run has just so many packets
+abbrev pub runRefusal : Shape → ℕ → List ℕ → ℕ → Option (ℕ × List ℕ)
+runRefusal s packets run place = cond (eqb (length run) (packets * packetOf s)) None (Some (5, place ∷ []))
 
-abbrev pub LossRefused : Shape → LossList → Refusal → Type 0
-LossRefused s l OtherWidth = ⊥
-LossRefused s l BadCounts = ⊥
-LossRefused s l TooLong = ⊥
-LossRefused s l BadSize = ⊥
-LossRefused s l (WrongRun place) = ⊥
-LossRefused s l BadLosses = LostBelow l (s .positions) → ⊥
-LossRefused s l TooFew = LostBelow l (s .positions) × (parityOf s < l .len)
-LossRefused s l (Contradictory sum word) = ⊥
+-- the first t positions are below an end
+unfoldable pub allBelow : (ℕ → ℕ) → ℕ → ℕ → Bool
+allBelow p zero end = true
+allBelow p (suc t) end = ltb (p t) end && allBelow p t end
 
-abbrev pub Repairable : Shape → LossList → Result (Unit {0}) Refusal → Type 0
-Repairable s l (Ok u) = LostBelow l (s .positions) × (l .len ≤ parityOf s)
-Repairable s l (Err e) = LossRefused s l e
+-- refusal 6 unless every lost position is in the block, then refusal 7 if too many are lost
+abbrev pub lossRefusal : Shape → LossList → Option (ℕ × List ℕ)
+lossRefusal s l = cond (allBelow (lost l) (l .len) (s .positions)) (cond (leb (l .len) (parityOf s)) None (Some (7, []))) (Some (6, []))
+
+-- the first of two checks that refuses
+abbrev pub orElse : Option (ℕ × List ℕ) → Option (ℕ × List ℕ) → Option (ℕ × List ℕ)
+orElse (Some e) next = Some e
+orElse None next = next

@@ -2,3 +2,8 @@ pub mod Rules
 pub mod Sizes
 pub mod Made
 pub mod Checks
+pub mod Blocks
+pub mod Sums
+pub mod Solving
+pub mod Found
+pub mod Calls

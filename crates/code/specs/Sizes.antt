@@ -18,6 +18,10 @@ packetOf s = s .rows * s .words
 abbrev pub Packets : Shape → ℕ → List ℕ → Type 0
 Packets s count run = length run ≡ count * packetOf s
 
+-- lost position number s, counted from 0
+abbrev pub lost : LossList → ℕ → ℕ
+lost l s = getD (l .at) s 0
+
 -- the lost positions lie below an end
 abbrev pub LostBelow : LossList → ℕ → Type 0
-LostBelow l end = (s : ℕ) → s < l .len → getD (l .at) s 0 < end
+LostBelow l end = (s : ℕ) → s < l .len → lost l s < end

@@ -1,11 +1,12 @@
 // The sums of a block: sum μ is the exclusive or of α^(μ·i) times packet i.
 ghost use mathlib.Core.Path.{_≡_};
-ghost use Prim.Native.Nat.{ℕ, _+_, _-_, _*_, _<_, _≤_};
+ghost use Prim.Native.Nat.{ℕ, _+_, _-_, _*_, _^_, _<_, _≤_};
 ghost use lib.ListN.{length, getD};
-ghost use Rattle.code.specs.Sizes.{parityOf, packetOf, Packets, LostBelow};
+ghost use Rattle.code.specs.Sizes.{parityOf, packetOf, Packets};
+ghost use Rattle.code.specs.Blocks.{packetIn};
+ghost use Rattle.code.specs.Sums.{Absorbed, Gained, FirstNonzero};
 use crate::losses::LossList;
-use crate::packet::add_product;
-use crate::packet::columns;
+use crate::packet::add_times;
 use crate::shape::Shape;
 use field::Arithmetic;
 use field::power::raise;
@@ -18,20 +19,18 @@ pub(crate) fn absorb<F: Arithmetic>(
     x: u32,
     packet: &[u32],
 )
+    requires width { ⌜ now shape .rows ≡ F·Arithmetic .bits ⌝ }
     requires sums { ⌜ Packets (now shape) (parityOf (now shape)) (now sums) ⌝ }
     requires packet { ⌜ length (now packet) ≡ packetOf (now shape) ⌝ }
     requires first { ⌜ first ≤ parityOf (now shape) ⌝ }
+    requires element { ⌜ x < 2 ^ F·Arithmetic .bits ⌝ }
+    ensures { λ _. ⌜ Absorbed (now (shape .entry)) (F·Arithmetic .prod) first (parityOf (now (shape .entry))) x (packetIn (now (shape .entry) .words) (now (packet .entry))) (now (sums .entry)) (now (sums .exit)) ⌝ }
 {
     let p = shape.packet();
     let mut a = raise::<F>(x, first as u32);
     for sum in first..shape.parity() {
-        add_product(
-            columns::<F>(a),
-            shape,
-            packet,
-            &mut sums[sum * p..sum * p + p],
-        );
-        a = F::product(a, x);
+        add_times::<F>(a, shape, packet, &mut sums[sum * p..sum * p + p]);
+        a = F::product(x, a);
     }
 }
 
@@ -44,9 +43,11 @@ pub(crate) fn absorb_held<F: Arithmetic>(
     count: usize,
     losses: &LossList,
 )
+    requires width { ⌜ now shape .rows ≡ F·Arithmetic .bits ⌝ }
     requires sums { ⌜ Packets (now shape) (parityOf (now shape)) (now sums) ⌝ }
     requires run { ⌜ Packets (now shape) count (now run) ⌝ }
     requires end { ⌜ start + count ≤ now shape .positions ⌝ }
+    ensures { λ _. ⌜ Gained (now (shape .entry)) (F·Arithmetic .prod) (now (losses .entry)) start count (now (run .entry)) (now (sums .entry)) (now (sums .exit)) ⌝ }
 {
     let p = shape.packet();
     let mut x = raise::<F>(2, start as u32);
@@ -54,13 +55,14 @@ pub(crate) fn absorb_held<F: Arithmetic>(
         if !losses.contains(start + i) {
             absorb::<F>(shape, sums, 0, x, &run[i * p..i * p + p]);
         }
-        x = F::product(x, 2);
+        x = F::product(2, x);
     }
 }
 
 // The first word that is not zero in the sums from `first` on: the sum, and the word in it.
 pub(crate) fn first_nonzero(shape: &Shape, sums: &[u32], first: usize) -> Option<(usize, usize)>
     requires { ⌜ Packets (now shape) (parityOf (now shape)) (now sums) ⌝ }
+    ensures { λ r. ⌜ FirstNonzero (now (shape .entry)) (now (sums .entry)) first r ⌝ }
 {
     let p = shape.packet();
     let mut at = None;

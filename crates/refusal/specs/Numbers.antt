@@ -1,6 +1,10 @@
 -- The number of each refusal, and the values that it carries.
 use mathlib.Core.List.{List, [], _∷_}
 use Prim.Native.Nat.{ℕ}
+use Rattle.std.specs.declared.option.Option.{Option}
+use Rattle.std.specs.declared.option.Option.the-variants.{Some, None}
+use Rattle.std.specs.declared.result.Result.{Result}
+use Rattle.std.specs.declared.result.Result.the-variants.{Ok, Err}
 use Rattle.refusal.specs.declared.Refusal.{Refusal}
 use Rattle.refusal.specs.declared.Refusal.the-variants.{OtherWidth, BadCounts, TooLong, BadSize, WrongRun, BadLosses, TooFew, Contradictory}
 
@@ -23,3 +27,12 @@ valuesOf (WrongRun place) = place ∷ []
 valuesOf BadLosses = []
 valuesOf TooFew = []
 valuesOf (Contradictory sum word) = sum ∷ word ∷ []
+
+-- a refusal as it is known outside the program: its number and its values
+abbrev pub said : Refusal → ℕ × List ℕ
+said e = (numberOf e, valuesOf e)
+
+-- whether a call was refused, and with what
+abbrev pub refusedWith : {A : Type 0} → Result A Refusal → Option (ℕ × List ℕ)
+refusedWith (Ok a) = None
+refusedWith (Err e) = Some (said e)

@@ -1,7 +1,9 @@
 ghost use mathlib.Core.Path.{_≡_};
 ghost use Prim.Native.Nat.{ℕ, _-_, _<_, _≤_};
 ghost use lib.ListN.{length, getD};
+ghost use Rattle.algebra.specs.Code.{among};
 ghost use Rattle.code.specs.Rules.{Ordered};
+ghost use Rattle.code.specs.Sizes.{lost};
 ghost use Rattle.code.specs.Made.{LossesMade, lostAt};
 use super::LossList;
 use crate::shape::Shape;
@@ -56,7 +58,7 @@ impl LossList {
     // The parity positions of a shape.
     pub(crate) fn parity(shape: &Shape) -> LossList
         ensures len { λ r. ⌜ r .len ≡ now (shape .entry) .positions - now (shape .entry) .sources ⌝ }
-        ensures at { λ r. ⌜ ((s : ℕ) → s < r .len → getD (r .at) s 0 ≡ s) ⌝ }
+        ensures at { λ r. ⌜ ((s : ℕ) → s < r .len → lost r s ≡ s) ⌝ }
     {
         let mut at = [0; 32];
         for s in 0..32 {
@@ -68,14 +70,22 @@ impl LossList {
         }
     }
 
-    pub(crate) fn contains(&self, position: usize) -> bool {
-        self.positions().contains(&position)
+    // Whether a position is lost.
+    pub fn contains(&self, position: usize) -> bool
+        ensures { λ r. ⌜ r ≡ among (lost (now (self .entry))) (now (self .entry) .len) position ⌝ }
+    {
+        for at in self.positions() {
+            if *at == position {
+                return true;
+            }
+        }
+        false
     }
 
     pub fn positions(&self) -> &[usize]
         ensures value { λ r. ⌜ now r ≡ lostAt (now (self .entry)) ⌝ }
         ensures len { λ r. ⌜ length (now r) ≡ now (self .entry) .len ⌝ }
-        ensures places { λ r. ⌜ ((s : ℕ) → s < now (self .entry) .len → getD (now r) s 0 ≡ getD (now (self .entry) .at) s 0) ⌝ }
+        ensures places { λ r. ⌜ ((s : ℕ) → s < now (self .entry) .len → getD (now r) s 0 ≡ lost (now (self .entry)) s) ⌝ }
     {
         &self.at[0..self.len]
     }

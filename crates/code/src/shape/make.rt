@@ -1,6 +1,7 @@
 ghost use mathlib.Core.Path.{_≡_};
 ghost use Prim.Native.Nat.{_-_, _*_, _^_, _<_, _≤_};
-ghost use Rattle.code.specs.Made.{ShapeMade};
+ghost use Rattle.refusal.specs.Numbers.{refusedWith};
+ghost use Rattle.code.specs.Made.{shapeRefusal, ShapeMade};
 use super::Shape;
 use field::Arithmetic;
 use refusal::Refusal;
@@ -14,7 +15,8 @@ impl Shape {
         blocks: usize,
         words: usize,
     ) -> Result<Shape, Refusal>
-        ensures { λ r. ⌜ ShapeMade (F·Arithmetic .bits) rows positions sources blocks words r ⌝ }
+        ensures answer { λ r. ⌜ refusedWith r ≡ shapeRefusal (F·Arithmetic .bits) rows positions sources blocks words ⌝ }
+        ensures made { λ r. ⌜ ShapeMade rows positions sources blocks words r ⌝ }
     {
         if rows != F::width() as usize {
             return Err(Refusal::OtherWidth);

@@ -1,6 +1,8 @@
-use Prim.Native.Nat.{ℕ, _<_}
-use lib.ListN.{getD}
+use mathlib.Core.Bool.{true}
+use mathlib.Core.Path.{_≡_}
+use Rattle.code.specs.Sizes.{lost}
+use Rattle.code.specs.Checks.{allBelow}
 use Rattle.code.proofs.block.repairable.Given as given
 
 abbrev pub Inv-loop-at : given.InvT-loop-at
-Inv-loop-at l = (s : ℕ) → s < l .at-index → getD (l .losses .at) s 0 < l .shape .positions
+Inv-loop-at l = allBelow (lost (l .losses)) (l .at-index) (l .shape .positions) ≡ true

@@ -1,0 +1,10 @@
+pub mod Sums
+pub mod Coef
+pub mod Loops
+pub mod Bits
+pub mod Packets
+pub mod Marks
+pub mod Words
+pub mod Lost
+pub mod Bridge
+pub mod Fits
