@@ -2,12 +2,12 @@
 use mathlib.Core.Path.{_≡_, refl, sym, _∙_, ap, subst}
 use mathlib.Core.Bool.{Bool, true, false, cond, not}
 use mathlib.Core.Logic.{_↔_, inl, inr}
-use Prim.Native.Nat.{ℕ, suc, _-_, _%_, _^_, _<_}
+use Prim.Native.Nat.{ℕ, suc, _-_, _%_, _^_, _<_, _≤_}
 use native.Mathlib.Nat.{mod-eq-of-lt}
 use native.Mathlib.Omega.{arith}
 use lib.Dec.{lit<}
 use Rattle.algebra.specs.Code.{Code, Block, Proper, Codeword, SamePacket, ZeroPacket, Words32, SameBlock, AgreeAt, syndrome, count, among}
-use Rattle.algebra.specs.Fits.{AtMostOne, ExactlyOne, Several}
+use Rattle.algebra.specs.Fits.{FitAtMostOne, FitOne, FitSeveral}
 use Rattle.algebra.specs.Laws.{vander}
 use Rattle.algebra.specs.Loops.{Sys, upd}
 use Rattle.algebra.proofs.Sums.{upd-at}
@@ -61,7 +61,8 @@ not-false : (b : Bool) → not b ≡ false → b ≡ true
 not-false true e = refl
 not-false false e = sym e
 
-pub at-most-one : AtMostOne
+-- with n - r packets or more, at most one codeword fits
+pub at-most-one : (C : Code) (inv : ℕ → ℕ) → Proper C inv → (held : ℕ → Bool) → C .positions - C .parity ≤ count held (C .positions) → FitAtMostOne C held
 at-most-one C inv P held h b d hb hd ag q l = elim (two (held q)) [
   | inl e ↦ ag q l e
   | inr e ↦
@@ -73,7 +74,8 @@ at-most-one C inv P held h b d hb hd ag q l = elim (two (held q)) [
       subst (λ u. SamePacket C (b u) (d u)) (s .2) (same (λ q l e. ag q l (not-false (held q) (sym (L .same q l) ∙ e))) (s .0) (s .1))
 ]
 
-pub exactly-one : ExactlyOne
+-- with just n - r, one fits
+pub exactly-one : (C : Code) (inv : ℕ → ℕ) → Proper C inv → (held : ℕ → Bool) → count held (C .positions) ≡ C .positions - C .parity → FitOne C held
 exactly-one C inv P held h g words =
     let r = listed (λ q. not (held q)) (C .positions) in
     let L = r .1 in
@@ -100,7 +102,8 @@ differ {C = C} P b d q l zero one same =
     let row : 0 < C .rows = omega (arith, P .field .wide) in
     omega (arith, zero 0 0 row (P .filled), same q l 0 0 row (P .filled), one 0 0 row (P .filled))
 
-pub several : Several
+-- with fewer, two or more fit
+pub several : (C : Code) (inv : ℕ → ℕ) → Proper C inv → (held : ℕ → Bool) → count held (C .positions) < C .positions - C .parity → FitSeveral C held
 several C inv P held h g words =
     let n : ℕ = C .positions in
     let u = unmarked held n (omega arith) in

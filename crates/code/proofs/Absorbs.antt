@@ -11,9 +11,9 @@ use lib.Bits.{bitXor, xor-assoc, xor-zero-r}
 use lib.ListN.{length}
 use Rattle.galois.specs.Field.{power}
 use Rattle.algebra.specs.Code.{Packet, SamePacket, scaled, xors, among}
-use Rattle.code.specs.declared.shape.Shape.{Shape}
-use Rattle.code.specs.declared.losses.LossList.{LossList}
-use Rattle.code.specs.Sizes.{parityOf, packetOf, lost}
+use Rattle.layout.specs.declared.shape.Shape.{Shape}
+use Rattle.layout.specs.declared.losses.LossList.{LossList}
+use Rattle.layout.specs.Sizes.{parityOf, packetOf, lost}
 use Rattle.code.specs.Blocks.{codeOf, packetIn, blockAt}
 use Rattle.code.specs.Sums.{Absorbed, Gained}
 use Rattle.code.proofs.Entries.{entry-written, entry-kept}

@@ -17,8 +17,8 @@ use Rattle.algebra.specs.Grids.{Grid, grid-xor, grid-ops, rows}
 use Rattle.algebra.proofs.Sums.{sys-right, upd-at, upd-off}
 use Rattle.algebra.proofs.Loops.{taking-step, taken-step, taking-none, found-all, found-first}
 use Rattle.algebra.proofs.Bridge.{same-rows, bridge-scaled}
-use Rattle.code.specs.declared.shape.Shape.{Shape}
-use Rattle.code.specs.Sizes.{parityOf}
+use Rattle.layout.specs.declared.shape.Shape.{Shape}
+use Rattle.layout.specs.Sizes.{parityOf}
 use Rattle.code.specs.Blocks.{codeOf, blockAt}
 use Rattle.code.specs.Solving.{nodeAt, gapOf, entry, Untouched, Copied, Keeps, stageOf, foundOf}
 use Rattle.code.proofs.Stages.{packet-laws}

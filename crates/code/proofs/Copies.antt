@@ -7,8 +7,8 @@ use native.Mathlib.Nat.{mul-le-mul-right}
 use native.Mathlib.Omega.{arith}
 use lib.ListN.{length, getD, set}
 use lib.Seq.{getD-set-same, getD-set-other}
-use Rattle.code.specs.declared.shape.Shape.{Shape}
-use Rattle.code.specs.Sizes.{packetOf, parityOf}
+use Rattle.layout.specs.declared.shape.Shape.{Shape}
+use Rattle.layout.specs.Sizes.{packetOf, parityOf}
 use Rattle.code.specs.Blocks.{codeOf, blockAt}
 use Rattle.code.specs.Solving.{Copied}
 use Rattle.code.proofs.Parts.{part-of}

@@ -15,9 +15,9 @@ use Rattle.galois.specs.Field.{FieldLaws, power}
 use Rattle.algebra.specs.Code.{Block, SamePacket, ZeroPacket, xors, scaled, syndrome, among}
 use Rattle.algebra.proofs.Marks.{true-false, among-at, among-off}
 use Rattle.algebra.proofs.Words.{xors-ext, xors-none, scaled-same, scaled-zero}
-use Rattle.code.specs.declared.shape.Shape.{Shape}
-use Rattle.code.specs.declared.losses.LossList.{LossList}
-use Rattle.code.specs.Sizes.{parityOf, packetOf, Packets, lost, LostBelow}
+use Rattle.layout.specs.declared.shape.Shape.{Shape}
+use Rattle.layout.specs.declared.losses.LossList.{LossList}
+use Rattle.layout.specs.Sizes.{parityOf, packetOf, Packets, lost, LostBelow}
 use Rattle.code.specs.Blocks.{codeOf, blockAt}
 use Rattle.code.specs.Sums.{shares, Gained}
 use Rattle.code.specs.Solving.{nodeAt, Keeps, sumsOf}

@@ -8,8 +8,8 @@ use borrow.Rule.Slice.PartMut.{putMid}
 use lib.ListN.{length, take, getD}
 use Rattle.std.specs.shelf.Lists.{between}
 use Rattle.std.proofs.shelf.Lists.{getD-take}
-use Rattle.code.specs.declared.shape.Shape.{Shape}
-use Rattle.code.specs.Sizes.{packetOf}
+use Rattle.layout.specs.declared.shape.Shape.{Shape}
+use Rattle.layout.specs.Sizes.{packetOf}
 use Rattle.code.specs.Blocks.{packetIn, blockAt}
 use Rattle.code.proofs.Parts.{part-written, part-kept, part-read}
 

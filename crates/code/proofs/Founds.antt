@@ -11,9 +11,9 @@ use Rattle.galois.specs.Field.{power}
 use Rattle.algebra.specs.Code.{Packet, SamePacket, scaled, xors, among}
 use Rattle.algebra.proofs.Words.{scaled-same}
 use Rattle.algebra.proofs.Marks.{true-false, among-at, among-skip}
-use Rattle.code.specs.declared.shape.Shape.{Shape}
-use Rattle.code.specs.declared.losses.LossList.{LossList}
-use Rattle.code.specs.Sizes.{parityOf, lost}
+use Rattle.layout.specs.declared.shape.Shape.{Shape}
+use Rattle.layout.specs.declared.losses.LossList.{LossList}
+use Rattle.layout.specs.Sizes.{parityOf, lost}
 use Rattle.code.specs.Blocks.{codeOf, blockAt}
 use Rattle.code.specs.Sums.{Absorbed}
 use Rattle.code.specs.Solving.{nodeAt}

@@ -1,4 +1,3 @@
-pub mod Ascending
 pub mod Places
 pub mod Parts
 pub mod Rows
@@ -12,3 +11,4 @@ pub mod Founds
 pub mod Runs
 pub mod Repairs
 pub mod Encodes
+pub mod Fitting

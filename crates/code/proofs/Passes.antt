@@ -11,9 +11,9 @@ use lib.ListN.{length}
 use Rattle.std.specs.declared.option.Option.{Option}
 use Rattle.std.specs.declared.option.Option.the-variants.{Some, None}
 use Rattle.algebra.proofs.Marks.{true-false}
-use Rattle.code.specs.declared.shape.Shape.{Shape}
-use Rattle.code.specs.declared.losses.LossList.{LossList}
-use Rattle.code.specs.Sizes.{parityOf, packetOf, Packets, lost, LostBelow}
+use Rattle.layout.specs.declared.shape.Shape.{Shape}
+use Rattle.layout.specs.declared.losses.LossList.{LossList}
+use Rattle.layout.specs.Sizes.{parityOf, packetOf, Packets, lost, LostBelow}
 use Rattle.code.specs.Checks.{widthRefusal, runRefusal, allBelow, lossRefusal, orElse}
 use Rattle.code.specs.Calls.{checkRefusal}
 

@@ -21,9 +21,9 @@ use Rattle.algebra.proofs.Marks.{two, among-at, among-find}
 use Rattle.algebra.proofs.Words.{xors-ext, scaled-same, scaled-zero}
 use Rattle.algebra.proofs.Lost.{syndrome-split, put, put-at, put-off}
 use Rattle.algebra.proofs.Bridge.{same-rows, rows-same, nodes-apart, lost-system}
-use Rattle.code.specs.declared.shape.Shape.{Shape}
-use Rattle.code.specs.declared.losses.LossList.{LossList}
-use Rattle.code.specs.Sizes.{parityOf, packetOf, Packets, lost, LostBelow}
+use Rattle.layout.specs.declared.shape.Shape.{Shape}
+use Rattle.layout.specs.declared.losses.LossList.{LossList}
+use Rattle.layout.specs.Sizes.{parityOf, packetOf, Packets, lost, LostBelow}
 use Rattle.code.specs.Blocks.{codeOf, blockAt}
 use Rattle.code.specs.Sums.{shares, Gained, ZeroSums, FirstAt}
 use Rattle.code.specs.Solving.{nodeAt, entry, Untouched, Keeps, sumsOf}

@@ -8,8 +8,8 @@ use native.Mathlib.Omega.{arith}
 use lib.ListN.{length, take, getD}
 use Rattle.std.proofs.shelf.Bits.{mul-le, div-below, mod-below}
 use Rattle.std.proofs.shelf.Lists.{ext-getD, getD-take, getD-past, getD-append-left, length-take}
-use Rattle.code.specs.declared.shape.Shape.{Shape}
-use Rattle.code.specs.Sizes.{packetOf, Packets}
+use Rattle.layout.specs.declared.shape.Shape.{Shape}
+use Rattle.layout.specs.Sizes.{packetOf, Packets}
 use Rattle.code.specs.Blocks.{blockAt}
 use Rattle.code.specs.Calls.{ZeroRun}
 

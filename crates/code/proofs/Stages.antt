@@ -13,8 +13,8 @@ use Rattle.algebra.proofs.Sums.{sys-right}
 use Rattle.algebra.proofs.Coef.{form-zero}
 use Rattle.algebra.proofs.Loops.{staged-step, staged-first, staged-last}
 use Rattle.algebra.proofs.Bridge.{grid-laws, added-rows}
-use Rattle.code.specs.declared.shape.Shape.{Shape}
-use Rattle.code.specs.Sizes.{parityOf}
+use Rattle.layout.specs.declared.shape.Shape.{Shape}
+use Rattle.layout.specs.Sizes.{parityOf}
 use Rattle.code.specs.Blocks.{codeOf, blockAt}
 use Rattle.code.specs.Solving.{nodeAt, entry, Stepped, Keeps, sumsOf, stageOf}
 

@@ -3,8 +3,8 @@ use mathlib.Core.List.{List}
 use Prim.Native.Nat.{ℕ, _+_, _*_}
 use lib.ListN.{getD}
 use Rattle.algebra.specs.Code.{Code, Packet, Block, xors, bit}
-use Rattle.code.specs.declared.shape.Shape.{Shape}
-use Rattle.code.specs.Sizes.{parityOf, packetOf}
+use Rattle.layout.specs.declared.shape.Shape.{Shape}
+use Rattle.layout.specs.Sizes.{parityOf, packetOf}
 
 -- the code of a shape, over a product
 abbrev pub codeOf : Shape → (ℕ → ℕ → ℕ) → Code

@@ -12,9 +12,9 @@ use Rattle.std.specs.declared.result.Result.the-variants.{Ok, Err}
 use Rattle.refusal.specs.declared.Refusal.{Refusal}
 use Rattle.refusal.specs.Numbers.{said}
 use Rattle.algebra.specs.Code.{Code, Block, Codeword, SamePacket, ZeroPacket, SameBlock, syndrome, among}
-use Rattle.code.specs.declared.shape.Shape.{Shape}
-use Rattle.code.specs.declared.losses.LossList.{LossList}
-use Rattle.code.specs.Sizes.{parityOf, packetOf, Packets, lost}
+use Rattle.layout.specs.declared.shape.Shape.{Shape}
+use Rattle.layout.specs.declared.losses.LossList.{LossList}
+use Rattle.layout.specs.Sizes.{parityOf, packetOf, Packets, lost}
 use Rattle.code.specs.Blocks.{codeOf, blockAt}
 use Rattle.code.specs.Checks.{widthRefusal, runRefusal, lossRefusal, orElse}
 

@@ -6,9 +6,9 @@ use Prim.Native.Nat.{ℕ, _<_, _≤_}
 use lib.Bits.{bitXor}
 use Rattle.galois.specs.Field.{power}
 use Rattle.algebra.specs.Code.{SamePacket, scaled, xors, among}
-use Rattle.code.specs.declared.shape.Shape.{Shape}
-use Rattle.code.specs.declared.losses.LossList.{LossList}
-use Rattle.code.specs.Sizes.{parityOf, lost}
+use Rattle.layout.specs.declared.shape.Shape.{Shape}
+use Rattle.layout.specs.declared.losses.LossList.{LossList}
+use Rattle.layout.specs.Sizes.{parityOf, lost}
 use Rattle.code.specs.Blocks.{codeOf, blockAt}
 use Rattle.code.specs.Solving.{nodeAt}
 

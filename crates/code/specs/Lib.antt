@@ -1,9 +1,7 @@
-pub mod Rules
-pub mod Sizes
-pub mod Made
 pub mod Checks
 pub mod Blocks
 pub mod Sums
 pub mod Solving
 pub mod Found
 pub mod Calls
+pub mod Fits

@@ -9,8 +9,8 @@ use Rattle.algebra.specs.Code.{SamePacket, scaled}
 use Rattle.algebra.specs.Laws.{vander, form, tri}
 use Rattle.algebra.specs.Loops.{Sys, found}
 use Rattle.algebra.specs.Grids.{Grid, grid-xor, grid-ops, rows}
-use Rattle.code.specs.declared.shape.Shape.{Shape}
-use Rattle.code.specs.Sizes.{parityOf, packetOf}
+use Rattle.layout.specs.declared.shape.Shape.{Shape}
+use Rattle.layout.specs.Sizes.{parityOf, packetOf}
 use Rattle.code.specs.Blocks.{codeOf, blockAt}
 
 -- node number s

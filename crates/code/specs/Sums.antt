@@ -9,9 +9,9 @@ use Rattle.std.specs.declared.option.Option.{Option}
 use Rattle.std.specs.declared.option.Option.the-variants.{Some, None}
 use Rattle.galois.specs.Field.{power}
 use Rattle.algebra.specs.Code.{Code, Packet, SamePacket, scaled, xors, among}
-use Rattle.code.specs.declared.shape.Shape.{Shape}
-use Rattle.code.specs.declared.losses.LossList.{LossList}
-use Rattle.code.specs.Sizes.{parityOf, packetOf, lost}
+use Rattle.layout.specs.declared.shape.Shape.{Shape}
+use Rattle.layout.specs.declared.losses.LossList.{LossList}
+use Rattle.layout.specs.Sizes.{parityOf, packetOf, lost}
 use Rattle.code.specs.Blocks.{codeOf, blockAt}
 
 -- the sums from `first` up to `end` have gained x^μ times a packet, and the others are as they were

@@ -4,20 +4,20 @@ ghost use Prim.Native.Nat.{ℕ, _+_, _-_, _*_, _^_, _<_, _≤_};
 ghost use lib.ListN.{length, getD};
 ghost use Rattle.refusal.specs.Numbers.{refusedWith};
 ghost use Rattle.algebra.specs.Code.{SamePacket};
-ghost use Rattle.code.specs.Sizes.{parityOf, packetOf, Packets, lost, LostBelow};
+ghost use Rattle.layout.specs.Sizes.{parityOf, packetOf, Packets, lost, LostBelow};
 ghost use Rattle.code.specs.Blocks.{codeOf, blockAt, packetIn};
 ghost use Rattle.code.specs.Checks.{widthRefusal, runRefusal, lossRefusal};
 ghost use Rattle.code.specs.Solving.{nodeAt};
 ghost use Rattle.code.specs.Found.{FoundAdded, Written};
 ghost use Rattle.code.specs.Calls.{ZeroRun, CodewordRun, Says, Encoded, encodeRefusal, AfterEncode, checkRefusal, AfterCheck, Restored, AfterRepair};
-use crate::losses::LossList;
-use crate::shape::Shape;
 use crate::solver::nodes;
 use crate::solver::solve;
 use crate::sums::absorb;
 use crate::sums::absorb_held;
 use crate::sums::first_nonzero;
 use field::Arithmetic;
+use layout::losses::LossList;
+use layout::shape::Shape;
 use refusal::Refusal;
 
 // Refuses a shape of another width than the arithmetic's.
@@ -229,7 +229,7 @@ pub fn repair<F: Arithmetic>(
     repairable(shape, losses)?;
     clear(work);
     let (sums, scratch) = work.split_at_mut(shape.parity() * shape.packet());
-    let answer = restore::<F>(shape, block, losses, sums, scratch);
+    let outcome = restore::<F>(shape, block, losses, sums, scratch);
     clear(work);
-    answer
+    outcome
 }

@@ -4,10 +4,10 @@ ghost use Prim.Native.Nat.{ℕ, _+_, _*_, _%_, _^_, _<_, _≤_};
 ghost use lib.ListN.{length, getD};
 ghost use lib.Bits.{bitXor};
 ghost use Rattle.algebra.specs.Code.{SamePacket, scaled};
-ghost use Rattle.code.specs.Sizes.{packetOf};
+ghost use Rattle.layout.specs.Sizes.{packetOf};
 ghost use Rattle.code.specs.Blocks.{codeOf, packetIn, selected};
-use crate::shape::Shape;
 use field::Arithmetic;
+use layout::shape::Shape;
 
 // The matrix of the product by `a`: column j is a · α^j.
 fn columns<F: Arithmetic>(a: u32) -> [u32; 10]

@@ -7,15 +7,15 @@ ghost use Rattle.galois.specs.Field.{power};
 ghost use Rattle.algebra.specs.Loops.{Apart};
 ghost use Rattle.algebra.specs.Packets.{Nz};
 ghost use Rattle.algebra.specs.Grids.{grid-ops};
-ghost use Rattle.code.specs.Sizes.{parityOf, packetOf, Packets, lost, LostBelow};
+ghost use Rattle.layout.specs.Sizes.{parityOf, packetOf, Packets, lost, LostBelow};
 ghost use Rattle.code.specs.Blocks.{codeOf, blockAt};
 ghost use Rattle.code.specs.Solving.{nodeAt, gapOf, Copied, Stepped, Untouched, Keeps, sumsOf, stageOf, foundOf};
-use crate::losses::LossList;
 use crate::packet::add_times;
 use crate::packet::add_words;
-use crate::shape::Shape;
 use field::Arithmetic;
 use field::power::raise;
+use layout::losses::LossList;
+use layout::shape::Shape;
 
 // The node of each lost position p: α^p.
 pub(crate) fn nodes<F: Arithmetic>(losses: &LossList) -> [u32; 32]

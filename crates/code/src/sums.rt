@@ -2,14 +2,14 @@
 ghost use mathlib.Core.Path.{_≡_};
 ghost use Prim.Native.Nat.{ℕ, _+_, _-_, _*_, _^_, _<_, _≤_};
 ghost use lib.ListN.{length, getD};
-ghost use Rattle.code.specs.Sizes.{parityOf, packetOf, Packets};
+ghost use Rattle.layout.specs.Sizes.{parityOf, packetOf, Packets};
 ghost use Rattle.code.specs.Blocks.{packetIn};
 ghost use Rattle.code.specs.Sums.{Absorbed, Gained, FirstNonzero};
-use crate::losses::LossList;
 use crate::packet::add_times;
-use crate::shape::Shape;
 use field::Arithmetic;
 use field::power::raise;
+use layout::losses::LossList;
+use layout::shape::Shape;
 
 // Adds a packet at node `x` to the sums from `first` on: sum μ gains x^μ times the packet.
 pub(crate) fn absorb<F: Arithmetic>(

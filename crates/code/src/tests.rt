@@ -1,11 +1,11 @@
 use crate::block;
 use crate::block::encode;
 use crate::block::repair;
-use crate::losses::LossList;
-use crate::shape::Shape;
 use field::nibble::*;
 use field::octet::*;
 use field::tabled::*;
+use layout::losses::LossList;
+use layout::shape::Shape;
 use refusal::Refusal;
 use refusal::RefusalDebug;
 use refusal::RefusalDisplay;
@@ -84,15 +84,6 @@ fn contradictory() -> Result<(), Fail> {
 }
 
 #[test]
-fn refused_losses() -> Result<(), Fail> {
-    let shape = small()?;
-    check(LossList::new(&shape, &[0, 1, 2]).err() == Some(Refusal::TooFew))?;
-    check(LossList::new(&shape, &[0, 3]).err() == Some(Refusal::BadLosses))?;
-    check(LossList::new(&shape, &[0, 1, 2, 2]).err() == Some(Refusal::BadLosses))?;
-    check(LossList::new(&shape, &[1, 0]).err() == Some(Refusal::BadLosses))
-}
-
-#[test]
 fn refused_runs() -> Result<(), Fail> {
     let shape = small()?;
     let none = LossList::none();
@@ -110,16 +101,4 @@ fn refused_runs() -> Result<(), Fail> {
     )?;
     check(short == [7; 8])?;
     check(work == [7; 12])
-}
-
-#[test]
-fn shapes() -> Result<(), Fail> {
-    check(Shape::new::<Nibble>(4, 15, 10, 1, 1).is_ok())?;
-    check(Shape::new::<Nibble>(4, 16, 10, 1, 1).err() == Some(Refusal::TooLong))?;
-    check(Shape::new::<TabledOctet>(8, 255, 223, 64, 16).is_ok())?;
-    check(Shape::new::<TabledOctet>(8, 255, 222, 1, 1).err() == Some(Refusal::BadCounts))?;
-    check(Shape::new::<TabledOctet>(4, 15, 10, 1, 1).err() == Some(Refusal::OtherWidth))?;
-    check(Shape::new::<TabledOctet>(8, usize::MAX, 0, 0, 0).err() == Some(Refusal::BadCounts))?;
-    check(Shape::new::<TabledOctet>(8, 20, 16, 65, 1).err() == Some(Refusal::BadSize))?;
-    check(Shape::new::<TabledOctet>(8, 20, 16, 1, 17).err() == Some(Refusal::BadSize))
 }

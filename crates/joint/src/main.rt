@@ -3,14 +3,14 @@
 ghost use Prim.Native.Nat.{_≤_};
 use code::block::encode;
 use code::block::repair;
-use code::losses::LossList;
-use code::shape::Shape;
 use field::Arithmetic;
 use field::octet::OctetLogarithms;
 use field::octet::TabledOctet;
 use field::stepped::SteppedOctet;
 use field::stepped::SteppedOctetArithmetic;
 use field::tabled::TabledArithmetic;
+use layout::losses::LossList;
+use layout::shape::Shape;
 use refusal::Refusal;
 use refusal::RefusalDebug;
 use refusal::RefusalDisplay;

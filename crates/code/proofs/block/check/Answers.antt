@@ -4,7 +4,7 @@ use native.Mathlib.Nat.{add-mul}
 use native.Mathlib.Omega.{arith}
 use lib.ListN.{length, take}
 use Rattle.std.proofs.shelf.Lists.{length-take-le}
-use Rattle.code.specs.Sizes.{parityOf, packetOf}
+use Rattle.layout.specs.Sizes.{parityOf, packetOf}
 use Rattle.code.proofs.Passes.{runs-pass}
 use Rattle.code.proofs.Runs.{zero-take}
 use Rattle.code.proofs.block.check.Needs as need

@@ -5,7 +5,7 @@ use native.Mathlib.Omega.{arith}
 use lib.ListN.{length, replicate}
 use Rattle.std.proofs.shelf.Bits.{mul-le}
 use Rattle.std.proofs.shelf.Lists.{length-take-le}
-use Rattle.code.specs.Sizes.{parityOf, packetOf, lost, LostBelow}
+use Rattle.layout.specs.Sizes.{parityOf, packetOf, lost, LostBelow}
 use Rattle.code.specs.Sums.{Gained}
 use Rattle.code.specs.Solving.{Keeps, sumsOf}
 use Rattle.code.proofs.Stages.{laws-of}

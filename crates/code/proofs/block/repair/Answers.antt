@@ -3,14 +3,14 @@ use Prim.Native.Nat.{ℕ, _+_, _-_, _*_, _≤_}
 use native.Mathlib.Nat.{add-mul}
 use native.Mathlib.Omega.{arith}
 use lib.ListN.{length}
-use Rattle.code.specs.Sizes.{parityOf, packetOf}
+use Rattle.layout.specs.Sizes.{parityOf, packetOf}
 use Rattle.code.specs.Calls.{ZeroRun}
 use Rattle.code.proofs.Passes.{runs-pass, losses-pass}
 use Rattle.code.proofs.Runs.{zero-front}
 use Rattle.code.proofs.block.repair.Needs as need
 
-pub restore-answer-requires : need.restore-answer-requires
-restore-answer-requires g c κs =
+pub restore-outcome-requires : need.restore-outcome-requires
+restore-outcome-requires g c κs =
     let s = c .args .shape .now in
     let pass = runs-pass (g .F·Arithmetic .bits) s (c .args .block .now) (c .args .work .now) (sym (c .in-Continue-check-runs .ensures tt)) in
     let fine = losses-pass s (c .args .losses .now) (sym (c .in-Continue-repairable .ensures tt)) in

@@ -5,7 +5,7 @@ use Prim.Native.Nat.{ℕ, _<_, _≤_}
 use native.Mathlib.Omega.{arith}
 use lib.Dec.{leb}
 use Rattle.std.specs.declared.option.Option.the-variants.{Some, None}
-use Rattle.code.specs.Sizes.{lost, parityOf}
+use Rattle.layout.specs.Sizes.{lost, parityOf}
 use Rattle.code.specs.Checks.{allBelow}
 use Rattle.code.proofs.Passes.{below-none, below-next, not-below}
 use Rattle.code.proofs.block.repairable.Needs as need

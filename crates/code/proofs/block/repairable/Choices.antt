@@ -1,6 +1,6 @@
 use mathlib.Core.Bool.{true}
 use mathlib.Core.Path.{_≡_}
-use Rattle.code.specs.Sizes.{lost}
+use Rattle.layout.specs.Sizes.{lost}
 use Rattle.code.specs.Checks.{allBelow}
 use Rattle.code.proofs.block.repairable.Given as given
 

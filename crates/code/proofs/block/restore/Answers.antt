@@ -6,7 +6,7 @@ use lib.Pow.{pow-mono}
 use Rattle.algebra.specs.Loops.{Apart}
 use Rattle.algebra.specs.Packets.{Nz}
 use Rattle.algebra.specs.Grids.{grid-ops}
-use Rattle.code.specs.Sizes.{parityOf}
+use Rattle.layout.specs.Sizes.{parityOf}
 use Rattle.code.specs.Blocks.{codeOf}
 use Rattle.code.specs.Sums.{Gained, ZeroSums, FirstAt}
 use Rattle.code.specs.Solving.{nodeAt, Untouched, Keeps, sumsOf}

@@ -10,7 +10,7 @@ use Rattle.algebra.specs.Code.{scaled}
 use Rattle.algebra.specs.Laws.{gap}
 use Rattle.algebra.specs.Loops.{theta}
 use Rattle.algebra.specs.Grids.{grid-ops}
-use Rattle.code.specs.Sizes.{parityOf, packetOf}
+use Rattle.layout.specs.Sizes.{parityOf, packetOf}
 use Rattle.code.specs.Blocks.{codeOf, packetIn, blockAt}
 use Rattle.code.proofs.Places.{part-ends}
 use Rattle.code.proofs.Parts.{part-length}

@@ -1,6 +1,6 @@
 use mathlib.Core.Path.{_≡_, refl, _∙_}
 use native.Mathlib.Omega.{arith}
-use Rattle.code.specs.Sizes.{packetOf}
+use Rattle.layout.specs.Sizes.{packetOf}
 use Rattle.code.proofs.Places.{part-ends}
 use Rattle.code.proofs.Copies.{copied-none, copied-more, copied-packet}
 use Rattle.code.proofs.solver.keep_first.Needs as need

@@ -1,4 +1,4 @@
-use Rattle.code.specs.Sizes.{packetOf}
+use Rattle.layout.specs.Sizes.{packetOf}
 use Rattle.code.proofs.Copies.{CopiedTo}
 use Rattle.code.proofs.solver.keep_first.Given as given
 

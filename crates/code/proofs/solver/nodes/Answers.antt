@@ -8,7 +8,7 @@ use lib.Pow.{pow-pos}
 use lib.Seq.{getD-set-same, getD-set-other}
 use Rattle.galois.specs.Field.{power}
 use Rattle.galois.proofs.Powers.{two-lt, power-lt}
-use Rattle.code.specs.Sizes.{lost}
+use Rattle.layout.specs.Sizes.{lost}
 use Rattle.code.proofs.Parts.{getD-zeros}
 use Rattle.code.proofs.solver.nodes.Needs as need
 

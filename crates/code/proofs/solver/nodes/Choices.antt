@@ -2,7 +2,7 @@ use mathlib.Core.Path.{_≡_}
 use Prim.Native.Nat.{ℕ, _<_, _≤_}
 use lib.ListN.{length}
 use Rattle.galois.specs.Field.{power}
-use Rattle.code.specs.Sizes.{lost}
+use Rattle.layout.specs.Sizes.{lost}
 use Rattle.code.specs.Solving.{nodeAt}
 use Rattle.code.proofs.solver.nodes.Given as given
 

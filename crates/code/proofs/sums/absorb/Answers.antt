@@ -9,7 +9,7 @@ use lib.ListN.{length}
 use Rattle.galois.specs.Field.{power}
 use Rattle.galois.proofs.Powers.{power-lt}
 use Rattle.algebra.specs.Code.{scaled}
-use Rattle.code.specs.Sizes.{parityOf}
+use Rattle.layout.specs.Sizes.{parityOf}
 use Rattle.code.specs.Blocks.{codeOf, packetIn, blockAt}
 use Rattle.code.specs.Sums.{Absorbed}
 use Rattle.code.proofs.Places.{part-ends}

@@ -3,7 +3,7 @@ use Prim.Native.Nat.{ℕ, _+_, _*_}
 use native.Mathlib.Decide.{ℕ-discrete}
 use native.Mathlib.Omega.{arith}
 use lib.ListN.{getD}
-use Rattle.code.specs.Sizes.{packetOf}
+use Rattle.layout.specs.Sizes.{packetOf}
 use Rattle.code.proofs.Places.{part-word}
 use Rattle.code.proofs.sums.first_nonzero.Needs as need
 

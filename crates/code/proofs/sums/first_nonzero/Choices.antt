@@ -2,7 +2,7 @@ use mathlib.Core.Path.{_≡_}
 use Prim.Native.Nat.{ℕ, _+_, _*_, _<_}
 use Rattle.std.specs.declared.option.Option.the-variants.{None}
 use lib.ListN.{getD}
-use Rattle.code.specs.Sizes.{packetOf}
+use Rattle.layout.specs.Sizes.{packetOf}
 use Rattle.code.specs.Sums.{ZeroSums}
 use Rattle.code.proofs.sums.first_nonzero.Given as given
 
