@@ -11,7 +11,7 @@ use Rattle.algebra.specs.Code.{Code, Packet, Block, SamePacket, ZeroPacket, xo
 use Rattle.algebra.specs.Laws.{Xor, Ops, Laws, sum, pow, vander}
 use Rattle.algebra.specs.Loops.{Sys, Apart, Added, Scaled}
 use Rattle.algebra.specs.Grids.{Grid, row-xor, grid-xor, grid-ops, rows, nodes}
-use Rattle.algebra.specs.Packets.{words, pick, Rows, rows-xor, row, mixed, act, ops, Ok, Nz}
+use Rattle.algebra.specs.Packets.{words, pick, Rows, rows-xor, row, mixed, act, Ok, Nz}
 use Rattle.algebra.proofs.Sums.{cancel, nil-right, sum-ext}
 use Rattle.algebra.proofs.Bits.{bit-lt, pick-times}
 use Rattle.algebra.proofs.Packets.{row-at, packets}

@@ -1,8 +1,8 @@
 -- The backward steps of the solver: each leaves the same solutions.
 use mathlib.Core.Path.{_≡_, refl, sym, _∙_, ap, ap₂}
 use mathlib.Core.List.{List}
-use mathlib.Core.Logic.{_↔_, Iff·trans, Iff·rfl}
-use Prim.Native.Nat.{ℕ, zero, suc, _+_, _-_, _*_, _^_, _<_, _≤_}
+use mathlib.Core.Logic.{_↔_, Iff·trans}
+use Prim.Native.Nat.{ℕ, zero, suc, _+_, _-_, _^_, _<_, _≤_}
 use native.Mathlib.Decide.{ℕ-discrete}
 use native.Mathlib.Numerals.{add-one}
 use native.Mathlib.Omega.{arith}
@@ -12,7 +12,7 @@ use Rattle.galois.proofs.Powers.{one-lt}
 use Rattle.algebra.specs.Code.{Code, Packet, SamePacket, scaled}
 use Rattle.algebra.specs.Laws.{Xor, Ops, gap}
 use Rattle.algebra.specs.Loops.{Sys, Apart, Added, Scaled, upd, theta, taking}
-use Rattle.algebra.specs.Packets.{Ok, Nz}
+use Rattle.algebra.specs.Packets.{Nz}
 use Rattle.algebra.specs.Grids.{Grid, grid-xor, grid-ops, rows}
 use Rattle.algebra.proofs.Sums.{sys-right, upd-at, upd-off}
 use Rattle.algebra.proofs.Loops.{taking-step, taken-step, taking-none, found-all, found-first}

@@ -8,8 +8,7 @@ use native.Mathlib.Omega.{arith}
 use lib.ListN.{length, getD, set}
 use lib.Seq.{getD-set-same, getD-set-other}
 use Rattle.layout.specs.declared.shape.Shape.{Shape}
-use Rattle.layout.specs.Sizes.{packetOf, parityOf}
-use Rattle.code.specs.Blocks.{codeOf, blockAt}
+use Rattle.layout.specs.Sizes.{packetOf}
 use Rattle.code.specs.Solving.{Copied}
 use Rattle.code.proofs.Parts.{part-of}
 use Rattle.code.proofs.Entries.{word-lt}

@@ -1,6 +1,6 @@
 -- Parity packets are those that the solver finds where all parity positions are lost.
-use mathlib.Core.Path.{_≡_, refl, sym, ap, ap₂, _∙_}
-use mathlib.Core.Bool.{Bool, true, false, cond}
+use mathlib.Core.Path.{_≡_, sym, ap, ap₂, _∙_}
+use mathlib.Core.Bool.{true, false, cond}
 use mathlib.Core.List.{List, _++_}
 use mathlib.Core.Logic.{_↔_}
 use Prim.Native.Nat.{ℕ, zero, suc, _+_, _-_, _*_, _^_, _<_, _≤_}
@@ -9,7 +9,7 @@ use native.Mathlib.Nat.{add-zero, add-suc, mul-le-mul-right, add-mul}
 use native.Mathlib.Omega.{arith}
 use lib.Bits.{bitXor, xor-zero-l, xor-zero-r, xor-assoc}
 use lib.Dec.{ltb}
-use lib.ListN.{length, getD, length-append}
+use lib.ListN.{getD, length-append}
 use Rattle.std.proofs.shelf.Lists.{getD-append-left, getD-append-right}
 use Rattle.galois.specs.Field.{FieldLaws, power}
 use Rattle.algebra.specs.Code.{Block, SamePacket, ZeroPacket, xors, scaled, syndrome, among}
@@ -21,7 +21,7 @@ use Rattle.layout.specs.Sizes.{parityOf, packetOf, Packets, lost, LostBelow}
 use Rattle.code.specs.Blocks.{codeOf, blockAt}
 use Rattle.code.specs.Sums.{shares, Gained}
 use Rattle.code.specs.Solving.{nodeAt, Keeps, sumsOf}
-use Rattle.code.specs.Calls.{CodewordRun, ZeroRun, Encoded}
+use Rattle.code.specs.Calls.{ZeroRun, Encoded}
 use Rattle.code.proofs.Entries.{word-lt}
 use Rattle.code.proofs.Runs.{same-runs}
 use Rattle.code.proofs.Repairs.{solved-iff}

@@ -1,6 +1,6 @@
 -- A shape over a lawful product is a proper code, so the theorems on codewords that fit hold of it.
 use mathlib.Core.Path.{_≡_, sym, _∙_}
-use Prim.Native.Nat.{ℕ, _-_, _<_, _≤_}
+use Prim.Native.Nat.{ℕ, _-_, _<_}
 use native.Mathlib.Omega.{arith}
 use Rattle.galois.specs.Field.{FieldLaws}
 use Rattle.algebra.specs.Code.{Proper}

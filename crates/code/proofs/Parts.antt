@@ -2,7 +2,6 @@
 use mathlib.Core.Path.{_≡_, refl, sym, ap, _∙_}
 use mathlib.Core.List.{List, _++_}
 use Prim.Native.Nat.{ℕ, zero, suc, _+_, _-_, _*_, _/_, _<_, _≤_}
-use native.Mathlib.Nat.{mul-le-mul-right}
 use native.Mathlib.Omega.{arith}
 use borrow.Rule.Slice.PartMut.{putMid}
 use lib.ListN.{length, take, drop, getD, replicate}
@@ -11,7 +10,7 @@ use Rattle.std.proofs.shelf.Bits.{div-mul-add}
 use Rattle.std.proofs.shelf.Edits.{getD-between, length-between}
 use Rattle.std.proofs.shelf.Lists.{length-take-le, getD-take, getD-drop, getD-append-left, getD-append-right}
 use Rattle.std.proofs.shelf.Tests.{cases-lt}
-use mathlib.Core.Logic.{_⊎_, inl, inr}
+use mathlib.Core.Logic.{inl, inr}
 
 -- a place names its part
 pub part-of : (i k w c d : ℕ) → c < w → d < w → i * w + c ≡ k * w + d → i ≡ k

@@ -1,9 +1,9 @@
 -- The packets that the solver finds are those of the codewords that agree with the block.
-use mathlib.Core.Path.{_≡_, refl, sym, ap, ap₂, _∙_, subst}
-use mathlib.Core.Bool.{Bool, true, false, cond}
+use mathlib.Core.Path.{_≡_, sym, ap, ap₂, _∙_, subst}
+use mathlib.Core.Bool.{false, cond}
 use mathlib.Core.List.{List}
-use mathlib.Core.Logic.{_↔_, Iff·trans, _⊎_, inl, inr}
-use Prim.Native.Nat.{ℕ, zero, suc, _+_, _-_, _*_, _^_, _<_, _≤_}
+use mathlib.Core.Logic.{_↔_, Iff·trans, inl, inr}
+use Prim.Native.Nat.{ℕ, zero, _+_, _*_, _^_, _<_, _≤_}
 use native.Mathlib.Decide.{decLt}
 use native.Mathlib.Nat.{zero-add}
 use native.Mathlib.Omega.{arith}
@@ -11,10 +11,10 @@ use lib.Bits.{bitXor, xor-zero-l}
 use lib.ListN.{length, getD}
 use Rattle.galois.specs.Field.{FieldLaws, power}
 use Rattle.galois.proofs.Powers.{two-lt, power-mul}
-use Rattle.algebra.specs.Code.{Code, Packet, Block, Codeword, SamePacket, ZeroPacket, SameBlock, xors, scaled, syndrome, among}
+use Rattle.algebra.specs.Code.{Code, Block, SamePacket, ZeroPacket, SameBlock, scaled, syndrome, among}
 use Rattle.algebra.specs.Laws.{pow, vander}
-use Rattle.algebra.specs.Loops.{Sys, Apart}
-use Rattle.algebra.specs.Packets.{Ok, Nz}
+use Rattle.algebra.specs.Loops.{Apart}
+use Rattle.algebra.specs.Packets.{Nz}
 use Rattle.algebra.specs.Grids.{Grid, grid-xor, grid-ops, rows, nodes}
 use Rattle.algebra.proofs.Sums.{sum-ext, sys-right}
 use Rattle.algebra.proofs.Marks.{two, among-at, among-find}
@@ -28,7 +28,7 @@ use Rattle.code.specs.Blocks.{codeOf, blockAt}
 use Rattle.code.specs.Sums.{shares, Gained, ZeroSums, FirstAt}
 use Rattle.code.specs.Solving.{nodeAt, entry, Untouched, Keeps, sumsOf}
 use Rattle.code.specs.Found.{FoundAdded, Written}
-use Rattle.code.specs.Calls.{CodewordRun, AgreeOff, ZeroRun, Repaired, SolvedBlock, Contradicted}
+use Rattle.code.specs.Calls.{CodewordRun, AgreeOff, ZeroRun, Repaired, Contradicted}
 use Rattle.code.proofs.Backs.{sys-left}
 use Rattle.code.proofs.Entries.{word-lt}
 use Rattle.code.proofs.Runs.{same-runs, row-lt, column-lt, place}

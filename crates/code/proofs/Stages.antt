@@ -1,12 +1,11 @@
 -- The forward steps of the solver: each leaves the same solutions.
-use mathlib.Core.Path.{_≡_, refl, sym, _∙_, ap}
+use mathlib.Core.Path.{_≡_, sym}
 use mathlib.Core.List.{List}
-use mathlib.Core.Logic.{_↔_, Iff·trans, Iff·rfl}
-use Prim.Native.Nat.{ℕ, suc, _+_, _-_, _*_, _^_, _<_, _≤_}
+use Prim.Native.Nat.{ℕ, suc, _+_, _^_, _<_, _≤_}
 use native.Mathlib.Omega.{arith}
 use Rattle.galois.specs.Field.{FieldLaws}
 use Rattle.algebra.specs.Laws.{Laws}
-use Rattle.algebra.specs.Loops.{Sys, Added, staged}
+use Rattle.algebra.specs.Loops.{Added, staged}
 use Rattle.algebra.specs.Packets.{Ok, Nz}
 use Rattle.algebra.specs.Grids.{Grid, grid-xor, grid-ops}
 use Rattle.algebra.proofs.Sums.{sys-right}

@@ -2,15 +2,15 @@
 use mathlib.Core.Path.{_≡_}
 use mathlib.Core.List.{List}
 use mathlib.Core.Logic.{_↔_}
-use Prim.Native.Nat.{ℕ, zero, suc, _+_, _-_, _*_, _<_, _≤_}
+use Prim.Native.Nat.{ℕ, zero, suc, _+_, _<_, _≤_}
 use lib.Bits.{bitXor}
 use lib.ListN.{getD}
 use Rattle.algebra.specs.Code.{SamePacket, scaled}
-use Rattle.algebra.specs.Laws.{vander, form, tri}
+use Rattle.algebra.specs.Laws.{vander, form}
 use Rattle.algebra.specs.Loops.{Sys, found}
 use Rattle.algebra.specs.Grids.{Grid, grid-xor, grid-ops, rows}
 use Rattle.layout.specs.declared.shape.Shape.{Shape}
-use Rattle.layout.specs.Sizes.{parityOf, packetOf}
+use Rattle.layout.specs.Sizes.{parityOf}
 use Rattle.code.specs.Blocks.{codeOf, blockAt}
 
 -- node number s

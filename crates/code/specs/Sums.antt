@@ -8,7 +8,7 @@ use lib.ListN.{getD}
 use Rattle.std.specs.declared.option.Option.{Option}
 use Rattle.std.specs.declared.option.Option.the-variants.{Some, None}
 use Rattle.galois.specs.Field.{power}
-use Rattle.algebra.specs.Code.{Code, Packet, SamePacket, scaled, xors, among}
+use Rattle.algebra.specs.Code.{Packet, SamePacket, scaled, xors, among}
 use Rattle.layout.specs.declared.shape.Shape.{Shape}
 use Rattle.layout.specs.declared.losses.LossList.{LossList}
 use Rattle.layout.specs.Sizes.{parityOf, packetOf, lost}

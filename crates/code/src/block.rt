@@ -1,11 +1,10 @@
 // Encode, check and repair one block.
 ghost use mathlib.Core.Path.{_≡_};
-ghost use Prim.Native.Nat.{ℕ, _+_, _-_, _*_, _^_, _<_, _≤_};
-ghost use lib.ListN.{length, getD};
+ghost use Prim.Native.Nat.{ℕ, _+_, _*_, _^_, _<_, _≤_};
+ghost use lib.ListN.{length};
 ghost use Rattle.refusal.specs.Numbers.{refusedWith};
-ghost use Rattle.algebra.specs.Code.{SamePacket};
-ghost use Rattle.layout.specs.Sizes.{parityOf, packetOf, Packets, lost, LostBelow};
-ghost use Rattle.code.specs.Blocks.{codeOf, blockAt, packetIn};
+ghost use Rattle.layout.specs.Sizes.{parityOf, packetOf, Packets, LostBelow};
+ghost use Rattle.code.specs.Blocks.{blockAt, packetIn};
 ghost use Rattle.code.specs.Checks.{widthRefusal, runRefusal, lossRefusal};
 ghost use Rattle.code.specs.Solving.{nodeAt};
 ghost use Rattle.code.specs.Found.{FoundAdded, Written};

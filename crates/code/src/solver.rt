@@ -1,14 +1,13 @@
 // The packets at lost positions, from the sums of the others.
 ghost use mathlib.Core.Path.{_≡_};
 ghost use Prim.Native.Nat.{ℕ, _+_, _-_, _*_, _%_, _^_, _<_, _≤_};
-ghost use lib.Bits.{bitXor};
-ghost use lib.ListN.{length, getD};
+ghost use lib.ListN.{length};
 ghost use Rattle.galois.specs.Field.{power};
 ghost use Rattle.algebra.specs.Loops.{Apart};
 ghost use Rattle.algebra.specs.Packets.{Nz};
 ghost use Rattle.algebra.specs.Grids.{grid-ops};
 ghost use Rattle.layout.specs.Sizes.{parityOf, packetOf, Packets, lost, LostBelow};
-ghost use Rattle.code.specs.Blocks.{codeOf, blockAt};
+ghost use Rattle.code.specs.Blocks.{codeOf};
 ghost use Rattle.code.specs.Solving.{nodeAt, gapOf, Copied, Stepped, Untouched, Keeps, sumsOf, stageOf, foundOf};
 use crate::packet::add_times;
 use crate::packet::add_words;

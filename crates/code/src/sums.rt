@@ -1,7 +1,7 @@
 // The sums of a block: sum μ is the exclusive or of α^(μ·i) times packet i.
 ghost use mathlib.Core.Path.{_≡_};
-ghost use Prim.Native.Nat.{ℕ, _+_, _-_, _*_, _^_, _<_, _≤_};
-ghost use lib.ListN.{length, getD};
+ghost use Prim.Native.Nat.{_+_, _*_, _^_, _<_, _≤_};
+ghost use lib.ListN.{length};
 ghost use Rattle.layout.specs.Sizes.{parityOf, packetOf, Packets};
 ghost use Rattle.code.specs.Blocks.{packetIn};
 ghost use Rattle.code.specs.Sums.{Absorbed, Gained, FirstNonzero};

@@ -3,7 +3,6 @@ ghost use mathlib.Core.Path.{_≡_};
 ghost use mathlib.Core.Bool.{true, _&&_};
 ghost use Prim.Native.Nat.{_%_, _^_};
 ghost use lib.Dec.{eqb};
-ghost use Rattle.galois.specs.Field.{SameProduct, product};
 use crate::Arithmetic;
 use crate::octet::OctetLogarithms;
 use crate::octet::TabledOctet;

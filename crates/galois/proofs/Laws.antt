@@ -1,12 +1,12 @@
 -- The laws of a field, where α goes through every nonzero element.
-use mathlib.Core.Path.{_≡_, refl, sym, ap, ap₂, _∙_, subst}
+use mathlib.Core.Path.{_≡_, sym, ap, _∙_}
 use Prim.Native.Nat.{ℕ, zero, suc, _+_, _-_, _*_, _/_, _%_, _^_, _<_, _≤_}
 use native.Mathlib.Nat.{add-comm, suc-mul, zero-mul, mul-comm, div-add-mod', zero-lt-suc}
 use native.Mathlib.Omega.{arith}
 use lib.Bits.{bitXor}
 use lib.Pow.{pow-mono}
-use Rattle.galois.specs.Field.{double, steps, times, product, power, inverse, FieldLaws, Primitive}
-use Rattle.galois.proofs.Linear.{double-lt, double-small, steps-lt, times-lt, times-right, times-steps, steps-add, times-zero-l, times-zero-r, product-one}
+use Rattle.galois.specs.Field.{steps, product, power, inverse, FieldLaws, Primitive}
+use Rattle.galois.proofs.Linear.{double-small, steps-lt, times-lt, times-right, times-steps, steps-add, times-zero-l, times-zero-r, product-one}
 
 module _ (m p : ℕ) (t : Primitive m p) where
   four : 4 ≤ 2 ^ m

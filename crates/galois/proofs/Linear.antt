@@ -1,11 +1,11 @@
 -- Doubling and the product are linear over the exclusive or, and the product passes doubling through.
 use mathlib.Core.Path.{_≡_, refl, sym, ap, ap₂, _∙_, subst}
-use Prim.Native.Nat.{ℕ, zero, suc, _+_, _-_, _*_, _/_, _%_, _^_, _<_, _≤_}
-use native.Mathlib.Nat.{add-zero, zero-add, suc-add, add-suc, zero-mul, one-mul, mul-zero, mul-one, mul-assoc, mul-comm, zero-div, pow-suc, mod-lt, mod-eq-of-lt, div-eq-of-lt, div-add-mod', div-lt-iff-lt-mul, le-of-suc-le-suc, not-suc-le-zero, add-mul, lt-of-lt-of-le, lt-of-le-of-lt, le-refl, mul-lt-mul-of-pos-right, le-trans, le-of-eq, mul-div-cancel}
+use Prim.Native.Nat.{ℕ, zero, suc, _+_, _*_, _/_, _%_, _^_, _<_, _≤_}
+use native.Mathlib.Nat.{add-zero, zero-add, suc-add, zero-mul, one-mul, mul-zero, mul-one, mul-assoc, mul-comm, zero-div, pow-suc, mod-lt, mod-eq-of-lt, div-eq-of-lt, div-add-mod', div-lt-iff-lt-mul, le-of-suc-le-suc, not-suc-le-zero, add-mul, mul-lt-mul-of-pos-right, le-of-eq}
 use native.Mathlib.Omega.{arith}
 use lib.Arith.{lt-one}
 use lib.Dec.{lit<}
-use lib.Pow.{pow-pos, pow-lt, pow-mono}
+use lib.Pow.{pow-pos, pow-lt}
 use lib.Bits.{bitXor, xor-assoc, xor-comm, xor-self, xor-zero-r, xor-block, xor-mod, xor-shr, xor-lt, xor-shifted}
 use Rattle.galois.specs.Field.{double, steps, times, product}
 

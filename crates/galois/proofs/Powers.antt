@@ -1,12 +1,11 @@
 -- What the laws of a field say of zero, of powers and of the powers of α.
-use mathlib.Core.Path.{_≡_, refl, sym, ap, ap₂, subst, _∙_}
-use mathlib.Core.Logic.{_⊎_, inl, inr}
+use mathlib.Core.Path.{_≡_, refl, sym, ap, subst, _∙_}
 use Prim.Native.Nat.{ℕ, zero, suc, _+_, _-_, _*_, _/_, _%_, _^_, _<_, _≤_}
-use native.Mathlib.Nat.{add-comm, suc-add, zero-add, suc-mul, zero-mul, one-mul, mul-comm, pow-suc}
+use native.Mathlib.Nat.{add-comm, suc-add, zero-add, suc-mul, zero-mul, pow-suc}
 use native.Mathlib.Decide.{ℕ-discrete}
 use native.Mathlib.Omega.{arith}
 use lib.Pow.{pow-pos, pow-lt, pow-mono}
-use lib.Bits.{bitXor, xor-self, xor-lt, xor-assoc, xor-zero-l, xor-zero-r}
+use lib.Bits.{bitXor, xor-self, xor-assoc, xor-zero-l, xor-zero-r}
 use Rattle.galois.specs.Field.{FieldLaws, power}
 
 module _ {m : ℕ} {prod : ℕ → ℕ → ℕ} {inv : ℕ → ℕ} (laws : FieldLaws m prod inv) where

@@ -1,10 +1,10 @@
 -- What the product by shifts keeps from turn to turn.
-use mathlib.Core.Path.{_≡_, refl, sym, ap, ap₂, _∙_, subst}
-use Prim.Native.Nat.{ℕ, zero, suc, _+_, _-_, _*_, _/_, _%_, _^_, _<_, _≤_}
-use native.Mathlib.Nat.{zero-mul, one-mul, div-eq-of-lt-le, zero-lt-suc}
+use mathlib.Core.Path.{_≡_, sym, ap, _∙_}
+use Prim.Native.Nat.{ℕ, suc, _*_, _/_, _%_, _^_, _<_, _≤_}
+use native.Mathlib.Nat.{zero-mul, one-mul, div-eq-of-lt-le}
 use native.Mathlib.Omega.{arith}
 use lib.Bits.{bitXor, bitAnd, and-mask, xor-assoc, xor-zero-r}
-use Rattle.galois.specs.Field.{double, times, product}
+use Rattle.galois.specs.Field.{double, times}
 
 pub double-big : (m p x : ℕ) → x < 2 ^ m → 2 ^ m ≤ x * 2 → double m p x ≡ bitXor (x * 2) p
 unfolding double

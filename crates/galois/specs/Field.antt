@@ -45,11 +45,6 @@ pub record FieldLaws (m : ℕ) (prod : ℕ → ℕ → ℕ) (inv : ℕ → ℕ) 
   pub doubles : (a : ℕ) → a * 2 < 2 ^ m → prod 2 a ≡ a * 2
   pub distinct : (i j : ℕ) → i < 2 ^ m - 1 → j < 2 ^ m - 1 → power prod 2 i ≡ power prod 2 j → i ≡ j
 
--- two products are equal if their widths are, and all their results
-pub record SameProduct (m : ℕ) (prod : ℕ → ℕ → ℕ) (n : ℕ) (other : ℕ → ℕ → ℕ) : Type 0 where
-  pub widths : m ≡ n
-  pub results : (a b : ℕ) → a < 2 ^ m → b < 2 ^ m → prod a b ≡ other a b
-
 -- p is a polynomial under which the powers of α go through all nonzero elements; log a is the exponent of α at a
 pub record Primitive (m p : ℕ) : Type 0 where
   pub wide : 3 ≤ m

@@ -48,27 +48,30 @@ pub impl fmt::Display for Refusal as RefusalDisplay {
         match self {
             Refusal::OtherWidth => write!(
                 f,
-                "{number}: the packets have other rows than the arithmetic has bits"
+                "refusal {number}: the packets have other rows than the arithmetic has bits"
             ),
             Refusal::BadCounts => write!(
                 f,
-                "{number}: the counts of source and parity positions do not fit"
+                "refusal {number}: the counts of source and parity positions do not fit"
             ),
-            Refusal::TooLong => write!(f, "{number}: a block is too long for this field"),
-            Refusal::BadSize => write!(f, "{number}: too many or no blocks, or words in a row"),
+            Refusal::TooLong => write!(f, "refusal {number}: a block is too long for this field"),
+            Refusal::BadSize => write!(
+                f,
+                "refusal {number}: too many or no blocks, or words in a row"
+            ),
             Refusal::WrongRun { place } => write!(
                 f,
-                "{number}: run {place} has not its number of words"
+                "refusal {number}: run {place} has not its number of words"
             ),
             Refusal::BadLosses => write!(
                 f,
-                "{number}: the lost positions do not ascend within the block"
+                "refusal {number}: the lost positions do not ascend within the block"
             ),
-            Refusal::TooFew => write!(f, "{number}: too few packets are left"),
+            Refusal::TooFew => write!(f, "refusal {number}: too few packets are left"),
             Refusal::Contradictory { sum, word } => {
                 write!(
                     f,
-                    "{number}: the packets contradict each other at sum {sum}, word {word}"
+                    "refusal {number}: the packets contradict each other at sum {sum}, word {word}"
                 )
             }
         }

@@ -1,5 +1,5 @@
 ghost use mathlib.Core.Path.{_≡_};
-ghost use Prim.Native.Nat.{_-_, _*_, _^_, _<_, _≤_};
+ghost use Prim.Native.Nat.{_-_, _<_, _≤_};
 ghost use Rattle.refusal.specs.Numbers.{refusedWith};
 ghost use Rattle.layout.specs.Made.{shapeRefusal, ShapeMade};
 use super::Shape;

@@ -1,11 +1,9 @@
-use borrow.Author.Needs.{needs}
-use mathlib.Core.Path.{_≡_, refl, sym, ap, _∙_}
-use Prim.Native.Nat.{ℕ, _-_, _<_, _≤_}
+use mathlib.Core.Path.{_≡_, sym, _∙_}
+use Prim.Native.Nat.{_-_, _≤_}
 use native.Mathlib.Omega.{arith}
-use lib.ListN.{length, replicate}
-use Rattle.std.proofs.shelf.Bits.{mul-le}
+use lib.ListN.{replicate}
 use Rattle.std.proofs.shelf.Lists.{length-take-le}
-use Rattle.layout.specs.Sizes.{parityOf, packetOf, lost, LostBelow}
+use Rattle.layout.specs.Sizes.{parityOf, LostBelow}
 use Rattle.code.specs.Sums.{Gained}
 use Rattle.code.specs.Solving.{Keeps, sumsOf}
 use Rattle.code.proofs.Stages.{laws-of}

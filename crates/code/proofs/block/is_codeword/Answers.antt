@@ -1,5 +1,3 @@
-use mathlib.Core.Path.{_≡_, ap}
-use Prim.Native.Nat.{ℕ}
 use Rattle.code.specs.Sums.{Gained}
 use Rattle.code.proofs.Repairs.{is-codeword, no-codeword}
 use Rattle.code.proofs.block.is_codeword.Needs as need

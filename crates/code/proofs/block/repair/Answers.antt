@@ -1,8 +1,7 @@
-use mathlib.Core.Path.{_≡_, sym, ap, ap₂, subst, _∙_}
-use Prim.Native.Nat.{ℕ, _+_, _-_, _*_, _≤_}
+use mathlib.Core.Path.{_≡_, sym, ap₂, subst, _∙_}
+use Prim.Native.Nat.{_*_}
 use native.Mathlib.Nat.{add-mul}
 use native.Mathlib.Omega.{arith}
-use lib.ListN.{length}
 use Rattle.layout.specs.Sizes.{parityOf, packetOf}
 use Rattle.code.specs.Calls.{ZeroRun}
 use Rattle.code.proofs.Passes.{runs-pass, losses-pass}

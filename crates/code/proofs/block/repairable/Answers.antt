@@ -1,12 +1,11 @@
-use mathlib.Core.Bool.{Bool, true, false, cond}
-use mathlib.Core.Path.{_≡_, sym, ap, _∙_}
+use mathlib.Core.Bool.{cond}
+use mathlib.Core.Path.{sym, ap}
 use mathlib.Core.List.{[]}
-use Prim.Native.Nat.{ℕ, _<_, _≤_}
+use Prim.Native.Nat.{_<_}
 use native.Mathlib.Omega.{arith}
 use lib.Dec.{leb}
 use Rattle.std.specs.declared.option.Option.the-variants.{Some, None}
 use Rattle.layout.specs.Sizes.{lost, parityOf}
-use Rattle.code.specs.Checks.{allBelow}
 use Rattle.code.proofs.Passes.{below-none, below-next, not-below}
 use Rattle.code.proofs.block.repairable.Needs as need
 

@@ -1,17 +1,12 @@
-use mathlib.Core.Path.{_≡_, refl, sym, ap, subst, _∙_}
-use Prim.Native.Nat.{ℕ, _-_, _^_, _<_, _≤_}
+use mathlib.Core.Path.{refl, _∙_}
+use Prim.Native.Nat.{_^_, _≤_}
 use native.Mathlib.Omega.{arith}
 use lib.ListN.{length}
 use lib.Pow.{pow-mono}
-use Rattle.algebra.specs.Loops.{Apart}
-use Rattle.algebra.specs.Packets.{Nz}
-use Rattle.algebra.specs.Grids.{grid-ops}
 use Rattle.layout.specs.Sizes.{parityOf}
-use Rattle.code.specs.Blocks.{codeOf}
 use Rattle.code.specs.Sums.{Gained, ZeroSums, FirstAt}
-use Rattle.code.specs.Solving.{nodeAt, Untouched, Keeps, sumsOf}
+use Rattle.code.specs.Solving.{Untouched, Keeps, sumsOf}
 use Rattle.code.specs.Found.{FoundAdded}
-use Rattle.code.specs.Calls.{Contradicted}
 use Rattle.code.proofs.Stages.{laws-of}
 use Rattle.code.proofs.Repairs.{lost-apart, repaired, contradicted}
 use Rattle.code.proofs.block.restore.Needs as need

@@ -1,7 +1,3 @@
-use mathlib.Core.Path.{_≡_}
-use Prim.Native.Nat.{ℕ, _<_, _≤_}
-use lib.Bits.{bitXor}
-use Rattle.code.specs.Blocks.{packetIn, selected}
 use Rattle.code.proofs.Rows.{RowsDone}
 use Rattle.code.proofs.packet.add_product.Given as given
 

@@ -1,5 +1,5 @@
 use borrow.Author.Needs.{needs}
-use mathlib.Core.Path.{_≡_, refl, sym, ap, ap₂, _∙_}
+use mathlib.Core.Path.{_≡_, refl, ap, ap₂, _∙_}
 use Prim.Native.Nat.{ℕ, _+_, _-_, _*_, _%_, _^_, _<_, _≤_}
 use native.Mathlib.Nat.{mod-lt, mod-eq-of-lt}
 use native.Mathlib.Omega.{arith}
@@ -10,8 +10,8 @@ use Rattle.algebra.specs.Code.{scaled}
 use Rattle.algebra.specs.Laws.{gap}
 use Rattle.algebra.specs.Loops.{theta}
 use Rattle.algebra.specs.Grids.{grid-ops}
-use Rattle.layout.specs.Sizes.{parityOf, packetOf}
-use Rattle.code.specs.Blocks.{codeOf, packetIn, blockAt}
+use Rattle.layout.specs.Sizes.{parityOf}
+use Rattle.code.specs.Blocks.{codeOf, packetIn}
 use Rattle.code.proofs.Places.{part-ends}
 use Rattle.code.proofs.Parts.{part-length}
 use Rattle.code.specs.Solving.{nodeAt}

@@ -1,10 +1,9 @@
-use mathlib.Core.Path.{_≡_, refl, sym, ap, _∙_}
+use mathlib.Core.Path.{_≡_, refl, _∙_}
 use mathlib.Core.Logic.{Iff·trans}
-use Prim.Native.Nat.{ℕ, suc, _+_, _-_, _%_, _^_, _<_, _≤_}
+use Prim.Native.Nat.{ℕ, _+_, _-_, _%_, _^_, _<_}
 use native.Mathlib.Nat.{mod-eq-of-lt}
 use native.Mathlib.Decide.{decLt}
 use native.Mathlib.Omega.{arith}
-use Rattle.galois.specs.Field.{FieldLaws}
 use Rattle.code.specs.Solving.{nodeAt, Stepped}
 use Rattle.code.proofs.Stages.{laws-of, stages-start, stage-starts, stage-turn, stage-ends}
 use Rattle.code.proofs.solver.forward.Needs as need

@@ -1,6 +1,6 @@
 use borrow.Author.Needs.{needs}
 use mathlib.Core.Path.{_≡_, sym, ap, ap₂, _∙_}
-use Prim.Native.Nat.{ℕ, _+_, _*_, _%_, _^_, _<_, _≤_}
+use Prim.Native.Nat.{_+_, _*_, _^_, _<_, _≤_}
 use native.Mathlib.Nat.{mod-eq-of-lt}
 use native.Mathlib.Numerals.{add-one}
 use native.Mathlib.Omega.{arith}
@@ -10,8 +10,7 @@ use Rattle.galois.specs.Field.{power}
 use Rattle.galois.proofs.Powers.{power-lt}
 use Rattle.algebra.specs.Code.{scaled}
 use Rattle.layout.specs.Sizes.{parityOf}
-use Rattle.code.specs.Blocks.{codeOf, packetIn, blockAt}
-use Rattle.code.specs.Sums.{Absorbed}
+use Rattle.code.specs.Blocks.{codeOf, packetIn}
 use Rattle.code.proofs.Places.{part-ends}
 use Rattle.code.proofs.Parts.{part-length}
 use Rattle.code.proofs.Entries.{entry-read}

@@ -1,17 +1,15 @@
 use borrow.Author.Needs.{needs}
 use mathlib.Core.Path.{_≡_, refl, sym, ap, ap₂, _∙_}
-use Prim.Native.Nat.{ℕ, suc, _+_, _*_, _%_, _^_, _<_, _≤_}
+use Prim.Native.Nat.{suc, _+_, _*_, _^_, _<_}
 use native.Mathlib.Nat.{mod-eq-of-lt, add-zero}
 use native.Mathlib.Omega.{arith}
 use lib.Bits.{bitXor}
-use lib.ListN.{length}
 use Rattle.std.specs.shelf.Lists.{between}
 use Rattle.galois.specs.Field.{power}
 use Rattle.galois.proofs.Powers.{two-lt, power-lt, power-mul}
 use Rattle.algebra.specs.Code.{scaled}
 use Rattle.algebra.proofs.Words.{scaled-same}
 use Rattle.code.specs.Blocks.{codeOf, packetIn, blockAt}
-use Rattle.code.specs.Sums.{Gained}
 use Rattle.code.proofs.Places.{part-ends}
 use Rattle.code.proofs.Parts.{part-length}
 use Rattle.code.proofs.Entries.{entry-read}

@@ -1,8 +1,8 @@
 use mathlib.Core.Path.{_≡_, sym, ap, ap₂, _∙_}
-use Prim.Native.Nat.{ℕ, suc, _+_, _-_, _%_, _<_}
+use Prim.Native.Nat.{ℕ, suc, _+_, _-_}
 use native.Mathlib.Omega.{arith}
 use lib.Bits.{bitXor, bitAnd, and-mask, mask-lt}
-use Rattle.galois.specs.Field.{double, times, product}
+use Rattle.galois.specs.Field.{times, product}
 use Rattle.galois.proofs.Turns.{turn-set, turn-clear, done}
 use Rattle.field.proofs.stepped.by_steps.Needs as need
 use Rattle.field.proofs.stepped.by_steps.Needs.{then-rest-eq1, else-rest-eq1}

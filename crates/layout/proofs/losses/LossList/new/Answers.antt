@@ -1,7 +1,7 @@
-use mathlib.Core.Path.{_≡_, refl, subst}
+use mathlib.Core.Path.{refl, subst}
 use native.Mathlib.Omega.{arith}
-use Prim.Native.Nat.{ℕ, _<_, _≤_, _-_}
-use lib.ListN.{length, take, getD, length-set}
+use Prim.Native.Nat.{_<_}
+use lib.ListN.{length, getD, length-set}
 use Rattle.std.proofs.shelf.Lists.{take-more, take-more-set}
 use Rattle.layout.specs.Rules.{InOrder}
 use Rattle.layout.proofs.Ascending.{ascends-of, copied}
