@@ -60,7 +60,8 @@ impl Shape {
     }
 
     pub fn blocks(&self) -> usize
-        ensures { λ r. ⌜ r ≡ now (self .entry) .blocks ⌝ }
+        ensures value { λ r. ⌜ r ≡ now (self .entry) .blocks ⌝ }
+        ensures bounds { λ r. ⌜ (1 ≤ r) × (r ≤ 64) ⌝ }
     {
         self.blocks
     }
