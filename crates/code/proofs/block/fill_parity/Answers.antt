@@ -1,4 +1,4 @@
-use mathlib.Core.Path.{_≡_, sym, _∙_}
+use mathlib.Core.Path.{_≡_, sym, subst, _∙_}
 use Prim.Native.Nat.{_-_, _≤_}
 use native.Mathlib.Omega.{arith}
 use lib.ListN.{replicate}
@@ -43,7 +43,9 @@ returns g c =
     let S₀ = c .absorb-held .last .sums in
     let S₁ = c .solve .last .sums in
     let e : c .parity-count .result ≡ l .len = c .parity-count .ensures ∙ sym few in
-    let gained : Gained s (f .prod) l (parityOf s) (s .sources) (c .args .source .now) (c .clear .last .run) S₀ = rw (c .parity-count .ensures, c .sources .ensures .value) at (c .absorb-held .ensures) in
+    let gained : Gained s (f .prod) l (parityOf s) (s .sources) (c .args .source .now) (c .clear .last .run) S₀ =
+    subst (λ n. Gained s (f .prod) l n (s .sources) (c .args .source .now) (c .clear .last .run) S₀) (c .parity-count .ensures)
+    (subst (λ k. Gained s (f .prod) l (c .parity-count .result) k (c .args .source .now) (c .clear .last .run) S₀) (c .sources .ensures .value) (c .absorb-held .ensures)) in
     let solved : Keeps s (f .prod) (f .inv) x (l .len) (sumsOf s (f .prod) (f .inv) x (l .len)) (λ I. I) S₀ S₁ = rw e at (c .solve .ensures .solved) in
     encoded s (f .prod) (f .inv) laws l few (c .parity-losses .ensures .at) x (c .nodes-nodes .ensures .at) (c .args .source .now) (c .pre .source) (c .clear .last .run) S₀ S₁ (c .clear .ensures) gained solved
     (c .solve .kept .sums ∙ c .absorb-held .kept .sums ∙ c .clear .kept .run ∙ c .pre .parity) (λ k. c .typed .parity k .fits) (λ k. c .typed .source k .fits)

@@ -1,4 +1,4 @@
-use mathlib.Core.Path.{refl, _∙_}
+use mathlib.Core.Path.{refl, subst, _∙_}
 use Prim.Native.Nat.{_^_, _≤_}
 use native.Mathlib.Omega.{arith}
 use lib.ListN.{length}
@@ -46,11 +46,11 @@ returns-in-Some g c =
     let S₀ = c .absorb-held .last .sums in
     let S₁ = c .solve .last .sums in
     let V = c .add-found .last .sums in
-    let gained : Gained s (f .prod) l 0 (s .positions) (c .args .block .now) (c .args .sums .now) S₀ = rw (c .positions .ensures .value) at (c .absorb-held .ensures) in
+    let gained : Gained s (f .prod) l 0 (s .positions) (c .args .block .now) (c .args .sums .now) S₀ = subst (λ n. Gained s (f .prod) l 0 n (c .args .block .now) (c .args .sums .now) S₀) (c .positions .ensures .value) (c .absorb-held .ensures) in
     let solved : Keeps s (f .prod) (f .inv) x (l .len) (sumsOf s (f .prod) (f .inv) x (l .len)) (λ I. I) S₀ S₁ = rw e at (c .solve .ensures .solved) in
     let kept : Untouched s (f .prod) (l .len) S₀ S₁ = rw e at (c .solve .ensures .off) in
     let added : FoundAdded s (f .prod) x (l .len) (l .len) S₁ V = rw e at (c .add-found .ensures) in
-    let first : FirstAt s V (l .len) (c .in-Some .sum) (c .in-Some .word) = rw e at (c .in-Some .ensures tt) in
+    let first : FirstAt s V (l .len) (c .in-Some .sum) (c .in-Some .word) = subst (λ n. FirstAt s V n (c .in-Some .sum) (c .in-Some .word)) e (c .in-Some .ensures tt) in
     record {
       sum = c .in-Some .sum;
       word = c .in-Some .word;
@@ -70,10 +70,10 @@ returns g c =
     let S₀ = c .absorb-held .last .sums in
     let S₁ = c .solve .last .sums in
     let V = c .add-found .last .sums in
-    let gained : Gained s (f .prod) l 0 (s .positions) (c .args .block .now) (c .args .sums .now) S₀ = rw (c .positions .ensures .value) at (c .absorb-held .ensures) in
+    let gained : Gained s (f .prod) l 0 (s .positions) (c .args .block .now) (c .args .sums .now) S₀ = subst (λ n. Gained s (f .prod) l 0 n (c .args .block .now) (c .args .sums .now) S₀) (c .positions .ensures .value) (c .absorb-held .ensures) in
     let solved : Keeps s (f .prod) (f .inv) x (l .len) (sumsOf s (f .prod) (f .inv) x (l .len)) (λ I. I) S₀ S₁ = rw e at (c .solve .ensures .solved) in
     let kept : Untouched s (f .prod) (l .len) S₀ S₁ = rw e at (c .solve .ensures .off) in
     let added : FoundAdded s (f .prod) x (l .len) (l .len) S₁ V = rw e at (c .add-found .ensures) in
-    let zero-behind : ZeroSums s V (l .len) (parityOf s) = rw e at (c .in-rest .ensures tt) in
+    let zero-behind : ZeroSums s V (l .len) (parityOf s) = subst (λ n. ZeroSums s V n (parityOf s)) e (c .in-rest .ensures tt) in
     repaired s (f .prod) (f .inv) laws l (c .pre .below) (c .pre .count) x (c .nodes-nodes .ensures .at) (c .args .block .now) (c .pre .block) _ S₀ S₁ V (c .pre .zero) gained solved kept added
     (c .write-found .last .block) (c .write-found .kept .block) (λ k. c .typed .block k .fits) zero-behind (c .write-found .ensures)

@@ -9,7 +9,7 @@ use Rattle.code.proofs.sums.first_nonzero.Needs as need
 
 pub index-sums-sum : need.index-sums-sum
 index-sums-sum c =
-    part-word (c .found .sum) (c .loop-word .word) _ _ (c .parity-sum-end .ensures) (c .packet-p .ensures .value) (c .pre) (c .found-test .taken) (c .loop-word-test .taken)
+    part-word (c .found .sum) (c .loop-word .word) _ _ (c .parity-sum-end .ensures) (c .packet-p .ensures .value) (c .pre) (omega arith) (omega arith)
 
 pub found-again : need.found-again
 found-again c = (
