@@ -1,4 +1,4 @@
-use mathlib.Core.Path.{_≡_, refl, _∙_}
+use mathlib.Core.Path.{_≡_, refl, subst, _∙_}
 use mathlib.Core.Logic.{Iff·trans}
 use Prim.Native.Nat.{ℕ, _+_, _-_, _%_, _^_, _<_}
 use native.Mathlib.Nat.{mod-eq-of-lt}
@@ -34,7 +34,8 @@ loop-i-again g c =
     let laws = laws-of (s .rows) (f .bits) (f .prod) (f .inv) (c .pre .width) (g .F·Arithmetic·met .field) in
     let ox : (k : ℕ) → nodeAt x k < 2 ^ s .rows = λ k. rw (c .pre .width) (c .pre .elements k) in
     let node : nodeAt x (j - 1) % 2 ^ f .bits ≡ nodeAt x (j - 1) = mod-eq-of-lt (c .pre .elements (j - 1)) in
-    let d : Stepped s (f .prod) (nodeAt x (j - 1)) (i - 1) (i - 1 - 1) (c .loop-i .sums) (c .add-entry .last .sums) = rw node at (c .add-entry .ensures) in (
+    let d : Stepped s (f .prod) (nodeAt x (j - 1)) (i - 1) (i - 1 - 1) (c .loop-i .sums) (c .add-entry .last .sums) =
+    subst (λ a. Stepped s (f .prod) a (i - 1) (i - 1 - 1) (c .loop-i .sums) (c .add-entry .last .sums)) node (c .add-entry .ensures) in (
       λ I. Iff·trans (c .loop-i .inv .0 I) (stage-turn s (f .prod) (f .inv) laws x ox (c .args .count) (j - 1) (i - 1) (i - 1 - 1) (i - j) (i - 1 - j) (omega arith) (omega arith) (omega arith) (omega arith) (c .pre .count) _ _ d I),
       λ μ h k a b p q. d .off μ k (λ z. omega arith) a b p q ∙ c .loop-i .inv .1 μ h k a b p q,
     )
