@@ -22,6 +22,16 @@ pub enum Refusal {
     TooFew,
     // 8: no codeword has the packets that are left: the lowest sum that is not zero, and its first word that is not.
     Contradictory { sum: usize, word: usize },
+    // 20: a number of the format is 0 or too large, or the slots exceed the store.
+    BadFormat,
+    // 21: the row or the column is outside the grid.
+    OutsideGrid,
+    // 22: the slot is filled.
+    SlotFilled,
+    // 23: the slot is empty.
+    SlotEmpty,
+    // 24: the run has not the size of a packet.
+    WrongSize,
 }
 
 impl Refusal {
@@ -38,6 +48,11 @@ impl Refusal {
             Refusal::BadLosses => 6,
             Refusal::TooFew => 7,
             Refusal::Contradictory { .. } => 8,
+            Refusal::BadFormat => 20,
+            Refusal::OutsideGrid => 21,
+            Refusal::SlotFilled => 22,
+            Refusal::SlotEmpty => 23,
+            Refusal::WrongSize => 24,
         }
     }
 }
@@ -74,6 +89,14 @@ pub impl fmt::Display for Refusal as RefusalDisplay {
                     "refusal {number}: the packets contradict each other at sum {sum}, word {word}"
                 )
             }
+            Refusal::BadFormat => write!(f, "refusal {number}: the format does not fit the store"),
+            Refusal::OutsideGrid => write!(f, "refusal {number}: the slot is outside the grid"),
+            Refusal::SlotFilled => write!(f, "refusal {number}: the slot is filled"),
+            Refusal::SlotEmpty => write!(f, "refusal {number}: the slot is empty"),
+            Refusal::WrongSize => write!(
+                f,
+                "refusal {number}: the run has not the size of a packet"
+            ),
         }
     }
 }

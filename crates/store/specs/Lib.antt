@@ -1,0 +1,3 @@
+pub mod Grids
+pub mod Layout
+pub mod Nor
