@@ -20,6 +20,13 @@ use std::alloc::Global;
 use std::env;
 use std::error::AnyError;
 use std::fs;
+use store::SlotStore;
+use store::memory::MemorySlots;
+use store::memory::MemoryStore;
+use store::nor::NorSlots;
+use store::nor::NorStore;
+use store::transposed::Transposed;
+use store::transposed::TransposedSlots;
 
 // What is asked for on the command line.
 #[derive(Drop)]
@@ -110,66 +117,101 @@ impl Link {
     }
 }
 
-// The block as it arrives: the lost packets hold noise.
-fn arrived(
-    heap: Global,
-    shape: &Shape,
-    sent: &[u32],
-    lost: &[usize],
-) -> Result<Vec<u32>, AllocError> {
-    let mut block = Vec::new(heap);
-    for (position, packet) in sent.chunks(shape.packet()).enumerate() {
-        for word in packet {
-            block.push(if lost.contains(&position) {
-                !*word
-            } else {
-                *word
-            })?;
-        }
-    }
-    Ok(block)
-}
-
-// One board: its name, its link, and how it fared.
+// One board: its name, its link, the store that keeps its packets, and how it fared.
 #[derive(Drop)]
-struct Board {
+struct Board<S> {
     name: &'static str,
     link: Link,
+    store: S,
     restored: usize,
     same: bool,
 }
 
-impl Board {
-    fn new(name: &'static str, seed: u32) -> Board {
+impl<S: SlotStore + Drop> Board<S> {
+    fn new(name: &'static str, seed: u32, store: S) -> Board<S> {
         Board {
             name,
             link: Link { seed },
+            store,
             restored: 0,
             same: true,
         }
     }
 
-    // Takes in one block, with the arithmetic of this board's make.
-    fn take<F: Arithmetic>(
+    // Keeps the packets of a block that arrive.
+    fn take(
         &mut self,
-        rt: &LibcRuntime,
+        heap: Global,
         shape: &Shape,
         block: usize,
         sent: &[u32],
     ) -> Result<(), AnyError> {
-        let heap = rt.alloc();
         let lost = self.link.lost(heap, shape)?;
-        let mut held = arrived(heap, shape, sent, &lost)?;
+        for (position, packet) in sent.chunks(shape.packet()).enumerate() {
+            if !lost.contains(&position) {
+                self.store.put(block, position, packet)?;
+            }
+        }
+        Ok(())
+    }
+
+    // The packets that the store holds of a block, zeros for the others, and the positions of those.
+    fn held(
+        &self,
+        heap: Global,
+        shape: &Shape,
+        block: usize,
+    ) -> Result<(Vec<u32>, Vec<usize>), AnyError> {
+        let mut words = Vec::new(heap);
+        let mut missing = Vec::new(heap);
+        for position in 0..shape.positions() {
+            let mut packet = vec![in heap; 0; shape.packet()]?;
+            if self.store.held(block, position)? {
+                self.store.get(block, position, &mut packet)?;
+            } else {
+                missing.push(position)?;
+            }
+            words.extend_from_slice(&packet)?;
+        }
+        Ok((words, missing))
+    }
+
+    // Restores the missing packets of a block, with the arithmetic of this board's make.
+    fn restore<F: Arithmetic>(
+        &mut self,
+        rt: &LibcRuntime,
+        shape: &Shape,
+        block: usize,
+    ) -> Result<(), AnyError> {
+        let heap = rt.alloc();
+        let (mut words, missing) = self.held(heap, shape, block)?;
         let mut work = vec![in heap; 0; (shape.parity() + 1) * shape.packet()]?;
-        let losses = LossList::new(shape, &lost)?;
-        repair::<F>(shape, &mut held, &losses, &mut work)?;
-        self.same = self.same && held.as_slice() == sent;
-        self.restored = self.restored.saturating_add(lost.len());
+        let losses = LossList::new(shape, &missing)?;
+        repair::<F>(shape, &mut words, &losses, &mut work)?;
+        for (position, packet) in words.as_slice().chunks(shape.packet()).enumerate() {
+            if missing.contains(&position) {
+                self.store.put(block, position, packet)?;
+            }
+        }
+        self.restored = self.restored.saturating_add(missing.len());
         let name = self.name;
         println!(
             rt,
-            "block {block}: the {name} board lost {lost:?} and restored all"
+            "block {block}: the {name} board lost {missing:?} and restored all"
         )?;
+        Ok(())
+    }
+
+    // Compares what the store holds of a block with what was sent.
+    fn compare(
+        &mut self,
+        heap: Global,
+        shape: &Shape,
+        block: usize,
+        sent: &[u32],
+    ) -> Result<(), AnyError> {
+        let (words, _missing) = self.held(heap, shape, block)?;
+        self.same = self.same && words.as_slice() == sent;
         Ok(())
     }
 
@@ -201,37 +243,64 @@ fn sent_block(heap: Global, shape: &Shape, bytes: &[u8]) -> Result<Vec<u32>, Any
     Ok(block)
 }
 
+// The shape for an image of so many bytes.
+fn shape_for(job: &Job, length: usize) -> Result<Shape, Refusal> {
+    let one = Shape::new::<TabledOctet>(8, job.positions, job.sources, 1, job.words)?;
+    let blocks = length.div_ceil(block_bytes(&one));
+    Shape::new::<TabledOctet>(8, job.positions, job.sources, blocks, job.words)
+}
+
+// Sends every block to both boards, lets each restore what it missed, and compares.
+fn broadcast<S: SlotStore + Drop, T: SlotStore + Drop>(
+    rt: &LibcRuntime,
+    shape: &Shape,
+    image: &[u8],
+    stepped: &mut Board<S>,
+    tabled: &mut Board<T>,
+) -> Result<(), AnyError> {
+    let heap = rt.alloc();
+    for (block, bytes) in image.chunks(block_bytes(shape)).enumerate() {
+        let sent = sent_block(heap, shape, bytes)?;
+        stepped.take(heap, shape, block, &sent)?;
+        tabled.take(heap, shape, block, &sent)?;
+        stepped.restore::<SteppedOctet>(rt, shape, block)?;
+        tabled.restore::<TabledOctet>(rt, shape, block)?;
+        stepped.compare(heap, shape, block, &sent)?;
+        tabled.compare(heap, shape, block, &sent)?;
+    }
+    stepped.report(rt)?;
+    tabled.report(rt)
+}
+
+// One board keeps its packets in memory, the other in flash, with rows and columns exchanged.
 fn run(rt: &LibcRuntime) -> Result<(), AnyError> {
     let heap = rt.alloc();
     let job = asked(rt)?;
     let path = job.path.as_str();
-    let image = match fs::read(rt, path) {
-        Ok(image) => image,
-        Err(_) => return Err("the image file cannot be read".into()),
+    let Ok(image) = fs::read(rt, path) else {
+        return Err("the image file cannot be read".into());
     };
     let length = image.len();
-    let one = Shape::new::<TabledOctet>(8, job.positions, job.sources, 1, job.words)?;
-    let size = block_bytes(&one);
-    let blocks = length.div_ceil(size);
-    let shape = Shape::new::<TabledOctet>(8, one.positions(), one.sources(), blocks, one.words())?;
+    let shape = shape_for(&job, length)?;
+    let blocks = shape.blocks();
     let positions = shape.positions();
     let sources = shape.sources();
     let rows = shape.rows();
     let words = shape.words();
+    let packet = shape.packet();
     println!(rt, "image: {path}, {length} bytes")?;
     println!(
         rt,
         "shape: {rows} rows of {words} words in a packet, {positions} packets in a block, {sources} of them source; blocks: {blocks}"
     )?;
-    let mut stepped = Board::new("stepped", 0x2545_F491);
-    let mut tabled = Board::new("tabled", 0x9E37_79B9);
-    for (b, bytes) in image.as_slice().chunks(size).enumerate() {
-        let sent = sent_block(heap, &shape, bytes)?;
-        stepped.take::<SteppedOctet>(rt, &shape, b, &sent)?;
-        tabled.take::<TabledOctet>(rt, &shape, b, &sent)?;
-    }
-    stepped.report(rt)?;
-    tabled.report(rt)?;
+    let slots = blocks * positions * (packet + 1);
+    let mut memory = vec![in heap; 0; slots]?;
+    let mut flash = vec![in heap; 0; slots + 1]?;
+    let mut stepped = Board::new("stepped", 0x2545_F491, MemoryStore::new(&mut memory));
+    let mut tabled = Board::new("tabled", 0x9E37_79B9, Transposed(NorStore::new(&mut flash)));
+    stepped.store.format(blocks, positions, packet)?;
+    tabled.store.format(blocks, positions, packet)?;
+    broadcast(rt, &shape, &image, &mut stepped, &mut tabled)?;
     if stepped.same && tabled.same {
         println!(rt, "both boards hold the same image")?;
         Ok(())
