@@ -17,7 +17,7 @@ pub struct MemoryStore<'a> {
 impl<'a> MemoryStore<'a> {
     // A store with no rows and no columns.
     pub fn new(words: &'a mut [u32]) -> MemoryStore<'a>
-        ensures capacity { λ r. ⌜ length (now (r .words)) ≡ length (now (words .entry)) ⌝ }
+        ensures words { λ r. ⌜ now (r .words) ≡ now (words .entry) ⌝ }
         ensures grid { λ r. ⌜ NoSlots (memoryGrid (r .format .rows) (r .format .columns) (r .format .size) (now (r .words))) ⌝ }
     {
         MemoryStore {

@@ -16,7 +16,7 @@ pub struct Format {
 
 impl Format {
     pub fn none() -> Format
-        ensures { λ r. ⌜ (r .rows ≡ 0) × (r .columns ≡ 0) ⌝ }
+        ensures { λ r. ⌜ (r .rows ≡ 0) × (r .columns ≡ 0) × (r .size ≡ 0) ⌝ }
     {
         Format {
             rows: 0,
