@@ -7,7 +7,6 @@ use Prim.Native.Nat.{ℕ, zero, suc, _+_, _-_, _^_, _<_, _≤_}
 use native.Mathlib.Numerals.{add-one, one-add}
 use native.Mathlib.Nat.{suc-add, mod-eq-of-lt}
 use native.Mathlib.Omega.{arith}
-use borrow.Author.Needs.{needs}
 use borrow.Rule.Slice.PartMut.{putMid}
 use mir.Syntax.{w32}
 use mir.Val.{Fits}
@@ -15,7 +14,7 @@ use lib.Bits.{bitAnd, and-comm, and-mask}
 use lib.Dec.{eqb, ltb, leb}
 use lib.ListN.{length, take, drop, getD, set, replicate, length-set, take-append-drop}
 use Rattle.std.specs.shelf.Lists.{between}
-use Rattle.std.proofs.shelf.Lists.{drop-all, take-all, drop-drop, places}
+use Rattle.std.proofs.shelf.Lists.{drop-all, take-all, drop-drop}
 use Rattle.std.proofs.shelf.Tests.{and-from, and-parts, and-left, both-ways, cases-bool, cond-false, eqb-true, le-ltb, ltb-true}
 use Rattle.std.specs.declared.option.Option.the-variants.{Some, None}
 use Rattle.std.specs.declared.result.Result.{Result}
@@ -161,12 +160,6 @@ length-past (x ∷ w) = omega arith
 
 pub place-moved : (k l r c n i j at : ℕ) → k ≡ l → Place k r c n i j at → Place l r c n i j at
 place-moved k l r c n i j at e p = subst (λ m. Place m r c n i j at) e p
-
-pub outside-moved : (k l r c n i j : ℕ) → k ≡ l → Outside k r c n i j → Outside l r c n i j
-outside-moved k l r c n i j e p = subst (λ m. Outside m r c n i j) e p
-
-pub length-slot : (xs : List ℕ) (at n : ℕ) → at + n + 1 ≤ length xs → length (slotWords xs at n) ≡ n + 1
-length-slot xs at n le = search (needs, places)
 
 -- no rows in a run of no words
 pub none-inside : (w : List ℕ) (r c n i j : ℕ) → length w ≡ 0 → Outside (length w - 1) r c n i j

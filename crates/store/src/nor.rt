@@ -113,9 +113,10 @@ pub fn put_words(
     if words.is_empty() {
         return Err(Refusal::OutsideGrid);
     }
+    let capacity = words.len() - 1;
     let guard = Guard { words };
     guard.words[0] = 1;
-    let Some(at) = format.place(guard.words.len() - 1, row, column) else {
+    let Some(at) = format.place(capacity, row, column) else {
         return Err(Refusal::OutsideGrid);
     };
     if packet.len() != format.size {

@@ -1,18 +1,14 @@
 use borrow.Author.Needs.{needs}
 use mathlib.Core.Path.{_≡_, refl, sym, ap, _∙_}
-use mathlib.Core.List.{List}
-use Prim.Native.Nat.{ℕ, _-_, _<_}
+use Prim.Native.Nat.{_-_, _<_}
 use native.Mathlib.Omega.{arith}
-use lib.ListN.{length, set, drop, length-set}
+use lib.ListN.{length, drop}
 use Rattle.std.proofs.shelf.Tests.{cond-false, eqb-true}
 use Rattle.store.specs.Layout.{Place}
 use Rattle.store.specs.Nor.{erased, fillRefusal, runAfterPut}
 use Rattle.store.proofs.Places.{put-is-refused, put-wrong-size}
-use Rattle.store.proofs.Flash.{not-empty, none-inside, shut-none, shut-again, shut-grid, past-open, place-moved, outside-moved, put-run, put-grid, shut-lock, shut-after-put}
+use Rattle.store.proofs.Flash.{not-empty, none-inside, shut-none, shut-again, shut-grid, past-open, put-run, put-grid, shut-lock, shut-after-put}
 use Rattle.store.proofs.nor.put_words.Needs as need
-
-same : (w : List ℕ) → length (set w 0 1) - 1 ≡ length w - 1
-same w = ap (λ n. n - 1) (length-set w 0 1)
 
 pub returns-then-is-empty : need.returns-then-is-empty
 returns-then-is-empty c =
@@ -31,7 +27,7 @@ returns-in-rest c =
     let w = c .args .words .now in
     let e = c .drop-guard .ensures ∙ shut-again w in
     record {
-      answer = sym (cond-false _ _ _ (outside-moved _ _ (c .args .format .rows) (c .args .format .columns) (c .args .format .size) (c .args .row) (c .args .column) (same w) (c .in-rest .ensures tt)));
+      answer = sym (cond-false _ _ _ (c .in-rest .ensures tt));
       run = e;
       shut = shut-lock w _ e;
       after = shut-grid w _ (c .args .format .rows) (c .args .format .columns) (c .args .format .size) e;
@@ -42,7 +38,7 @@ returns-then-packet-format c =
     let w = c .args .words .now in
     let e = c .drop-guard-then-packet-format .ensures ∙ shut-again w in
     record {
-      answer = put-wrong-size erased _ _ _ _ _ _ (c .in-Some .at) (drop 1 w) (c .args .packet .now) (place-moved _ _ _ _ _ _ _ _ (same w) (c .in-Some .ensures tt)) (c .if-packet-format .taken);
+      answer = put-wrong-size erased _ _ _ _ _ _ (c .in-Some .at) (drop 1 w) (c .args .packet .now) (c .in-Some .ensures tt) (c .if-packet-format .taken);
       run = e;
       shut = shut-lock w _ e;
       after = shut-grid w _ (c .args .format .rows) (c .args .format .columns) (c .args .format .size) e;
@@ -58,7 +54,7 @@ returns c =
     let len : length ws ≡ n = c .if-packet-format .left in
     let lt : 0 < length w = not-empty (length w) (c .if-is-empty .ensures tt) in
     let p : Place (length w - 1) (c .args .format .rows) (c .args .format .columns) n (c .args .row) (c .args .column) at =
-    place-moved _ _ _ _ _ _ _ _ (same w) (c .in-Some .ensures tt) in
+    c .in-Some .ensures tt in
     let run = put-run r w (c .fill-slot .last .slot) _ ws at _ lt (omega arith) (c .fill-slot .ensures .after) (c .drop-guard-2 .ensures) in
     record {
       answer = c .fill-slot .ensures .answer ∙ ap fillRefusal (past-open w at n _ 1 len) ∙ put-is-refused erased _ _ _ _ _ _ at (drop 1 w) ws _ p refl len;
