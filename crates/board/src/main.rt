@@ -1,4 +1,6 @@
 // Calls of one receiver, read from standard input one to a line, and their answers, one to a line.
+#![tactic(auto)]
+
 mod call;
 
 use call::{Call, Error, Medium, Place, Setting};

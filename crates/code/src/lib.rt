@@ -1,4 +1,6 @@
 // An erasure code over blocks of packets: encode, check and repair, over any arithmetic.
+#![tactic(auto)]
+
 pub mod block;
 pub mod fits;
 mod packet;

@@ -1,4 +1,6 @@
 // Arithmetic in the fields of 2^m elements, m from 3 to 10, behind one trait.
+#![tactic(auto)]
+
 pub mod alpha;
 pub mod nibble;
 pub mod octet;

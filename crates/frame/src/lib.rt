@@ -2,6 +2,8 @@
 //   a shape frame: kind 1, rows in bits 27 to 24, positions in 23 to 12, sources in 11 to 0;
 //                  then kind 2, blocks in bits 27 to 16, words of a row in 7 to 0
 //   a packet frame: kind 3, block in bits 23 to 12, position in 11 to 0; then its payload, which is not judged here
+#![tactic(auto)]
+
 ghost use Rattle.std.specs.Prelude.{◌≡◌, ◌<◌, length};
 ghost use Rattle.refusal.specs.Numbers.{refused_with};
 ghost use Rattle.frame.specs.Frames.{seen, content_of, parse, bits_of, fits, frame_words, Spells, write_refusal, after_write, ReadsBack};

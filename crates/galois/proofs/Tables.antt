@@ -108,7 +108,7 @@ module _ (m p : ℕ) (passed : T (generates m p)) where
   power_at i h = powers_from_at m p (2 ^ m - 1) 1 parts.top i h
 
   powered_at : (a : ℕ) → a < 2 ^ m → T (powered (2 ^ m - 1) (powers m p) a (get_or (logarithms m p) a 0))
-  powered_at a h = at (powered (2 ^ m - 1) (powers m p)) (logarithms m p) parts.powered-all a (subst (λ (k : ℕ). a < k) (sym parts.size) h)
+  powered_at a h = at (powered (2 ^ m - 1) (powers m p)) (logarithms m p) parts.powered_all a (subst (λ (k : ℕ). a < k) (sym parts.size) h)
 
   log_lt : (a : ℕ) → 0 < a → a < 2 ^ m → get_or (logarithms m p) a 0 < 2 ^ m - 1
   log_lt a z h = powered_lt (2 ^ m - 1) (powers m p) a (get_or (logarithms m p) a 0) z (powered_at a h)
@@ -122,7 +122,7 @@ module _ (m p : ℕ) (passed : T (generates m p)) where
   log_of i h =
       ap (λ (x : ℕ). get_or (logarithms m p) x 0) (sym (power_at i h))
       ∙ eqb→eq (get_or (logarithms m p) (get_or (powers m p) i 0) 0) i
-      (at (logged (logarithms m p)) (powers m p) parts.logged-all i (subst (λ (k : ℕ). i < k) (sym (length_powers m p)) h))
+      (at (logged (logarithms m p)) (powers m p) parts.logged_all i (subst (λ (k : ℕ). i < k) (sym (length_powers m p)) h))
 
   pub primitive : Primitive m p
   primitive = record {

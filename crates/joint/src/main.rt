@@ -1,5 +1,7 @@
 // Sends a firmware image to two boards of different make, each losing packets of its own,
 // and tells whether both end with the image that was sent.
+#![tactic(auto)]
+
 ghost use Rattle.std.specs.Prelude.{◌≤◌};
 
 use anyhow::anyhow;

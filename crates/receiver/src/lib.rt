@@ -1,4 +1,6 @@
 // A board's receiver: frames in, packets kept in the slots of a store, blocks repaired, packets out.
+#![tactic(auto)]
+
 ghost use Rattle.std.specs.Prelude.{◌≡◌, None};
 ghost use Rattle.receiver.specs.Meaning.{means, Sound};
 ghost use Rattle.receiver.specs.Calls.{ShapeSaid};

@@ -1,4 +1,6 @@
 // Why a call of this project was refused: one list of numbered refusals.
+#![tactic(auto)]
+
 ghost use Rattle.std.specs.Prelude.{◌≡◌};
 ghost use Rattle.refusal.specs.Numbers.{number_of};
 

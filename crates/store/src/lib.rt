@@ -1,4 +1,6 @@
 // Stores of packets in slots: one trait with a meaning, and its stores.
+#![tactic(auto)]
+
 ghost use Rattle.std.specs.Prelude.{◌≡◌, ℕ};
 ghost use Rattle.refusal.specs.Numbers.{refused_with};
 ghost use Rattle.store.specs.Grids.{Grid, format_refusal, AfterFormat, held_answer, put_refusal, AfterPut, get_refusal, after_get};

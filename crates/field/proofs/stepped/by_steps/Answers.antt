@@ -11,11 +11,11 @@ loop-j-init c = (mask_lt c.args.a 8, ap₂ (times 8 0x11D 8) (and_mask c.args.a 
 
 pub loop-j-preserved : goal.loop-j-preserved
 loop-j-preserved c =
-    let k = 8 - (c.loop-j.-j + 1) in
+    let k = 8 - (c.loop-j._j + 1) in
     let x = c.loop-j.shifted in
     let r = c.loop-j.rest in
     let s = c.loop-j.sum in
-    let left : 8 - c.loop-j.-j ≡ suc k = let h = c.loop-j-test.true in omega arith in
+    let left : 8 - c.loop-j._j ≡ suc k = let h = c.loop-j-test.true in omega arith in
     let was = ap (λ (n : ℕ). bit_xor s (times 8 0x11D n x r)) (sym left) ∙ c.loop-j.invariant.1 in
     let doubled = c.doubled-shifted.ensures.value in (
       c.doubled-shifted.ensures.element,
@@ -29,7 +29,7 @@ loop-j-preserved c =
 
 pub returns : goal.returns
 returns c =
-    let none : 8 - c.loop-j.-j ≡ 0 = let h = c.loop-j-test.false in omega arith in
+    let none : 8 - c.loop-j._j ≡ 0 = let h = c.loop-j-test.false in omega arith in
     sym (ap (λ (n : ℕ). bit_xor c.loop-j.sum (times 8 0x11D n c.loop-j.shifted c.loop-j.rest)) none
     ∙ done 8 0x11D c.loop-j.sum c.loop-j.shifted c.loop-j.rest)
     ∙ c.loop-j.invariant.1

@@ -25,17 +25,17 @@ pub loop-i-preserved : goal.loop-i-preserved
 loop-i-preserved c =
     let a = c.args.a % 256 in
     let a_lt : a < 256 = mod-lt c.args.a (lit< tt) in
-    let i = c.loop-i.-i in
+    let i = c.loop-i._i in
     let once : 2 ^ (i + 1) ≡ 2 ^ i * 2 = pow-add 2 i 1 in
     let more : 2 ^ (i + 1 + 1) ≡ 2 ^ (i + 1) * 2 = pow-add 2 (i + 1) 1 in
     let pos : 0 < 2 ^ i = pow_pos i in
     let e : 2 ^ i + 2 ^ i ≡ 2 ^ (i + 1) = omega arith in
     let f : 2 ^ (i + 1) - 2 + 2 ^ (i + 1) ≡ 2 ^ (i + 1 + 1) - 2 = omega arith in
-    let squared = c.by-steps-square.ensures ∙ powers a (2 ^ i) (2 ^ i) _ _ a_lt c.loop-i.invariant.0 c.loop-i.invariant.0 ∙ ap (power (product 8 0x11D) a) e in
-    (squared, c.by-steps-inverse.ensures ∙ powers a (2 ^ (i + 1) - 2) (2 ^ (i + 1)) _ _ a_lt c.loop-i.invariant.1 squared ∙ ap (power (product 8 0x11D) a) f)
+    let squared = c.by_steps-square.ensures ∙ powers a (2 ^ i) (2 ^ i) _ _ a_lt c.loop-i.invariant.0 c.loop-i.invariant.0 ∙ ap (power (product 8 0x11D) a) e in
+    (squared, c.by_steps-inverse.ensures ∙ powers a (2 ^ (i + 1) - 2) (2 ^ (i + 1)) _ _ a_lt c.loop-i.invariant.1 squared ∙ ap (power (product 8 0x11D) a) f)
 
 pub returns : goal.returns
 unfolding inverse
 returns c =
-    let all : c.loop-i.-i ≡ 7 = let h = c.loop-i-test.false in let k = c.loop-i.auto in omega arith in
+    let all : c.loop-i._i ≡ 7 = let h = c.loop-i-test.false in let k = c.loop-i.auto in omega arith in
     c.loop-i.invariant.1 ∙ ap (λ (n : ℕ). power (product 8 0x11D) (c.args.a % 256) (2 ^ (n + 1) - 2)) all

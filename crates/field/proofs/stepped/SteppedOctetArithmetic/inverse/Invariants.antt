@@ -4,5 +4,5 @@ use Rattle.field.proofs.stepped.SteppedOctetArithmetic.inverse.Given as goal
 
 abbrev pub invariant-loop-i : goal.invariant-loop-i
 invariant-loop-i l =
-    (l.square ≡ power (product 8 0x11D) (l.a % 256) (2 ^ l.-i))
-    × (l.inverse ≡ power (product 8 0x11D) (l.a % 256) (2 ^ (l.-i + 1) - 2))
+    (l.square ≡ power (product 8 0x11D) (l.a % 256) (2 ^ l._i))
+    × (l.inverse ≡ power (product 8 0x11D) (l.a % 256) (2 ^ (l._i + 1) - 2))
