@@ -13,10 +13,10 @@ loop-i-preserved c =
     let v = c.loop-i.invariant.1 in
     (simp length-set (omega arith), cc)
 
-pub invariant-of-result : goal.invariant-of-result
-invariant-of-result c =
+pub invariant_of-result : goal.invariant_of-result
+invariant_of-result c =
     let listed = copied c.loop-i.at c.args.positions.now c.loop-i.i (omega arith) c.loop-i.invariant.1 in
-    (omega arith, (ascends_of c.loop-i.at c.args.positions.now _ listed c.if-not-ordered.ensures.0, tt))
+    record { few = omega arith; ascends = ascends_of c.loop-i.at c.args.positions.now _ listed c.if-not-ordered.ensures.0 }
 
 pub returns : goal.returns
 returns c = record {
