@@ -6,8 +6,8 @@ use Rattle.code.proofs.Entries.{entry_read}
 use Rattle.code.proofs.Founds.{found_none, found_more}
 use Rattle.code.proofs.block.add_found.Goals as goal
 
-pub slice-bounds-copy-from-slice-end : goal.slice-bounds-copy-from-slice-end
-slice-bounds-copy-from-slice-end g c =
+pub slice_bounds-copy_from_slice-end : goal.slice_bounds-copy_from_slice-end
+slice_bounds-copy_from_slice-end g c =
     let lt : c.loop-s.s < parity_of c.args.shape.now = let k = c.requires.count in let t = c.loop-s-test.true in omega arith in
     let h = part_ends c.loop-s.s _ c.packet-p.result refl c.packet-p.ensures.value (c.loop-s.invariant.0 ∙ c.requires.sums) lt in
     search rules
@@ -20,8 +20,8 @@ loop-s-preserved g c =
     let s = c.args.shape.now in
     let n = c.loop-s.s in (
       c.absorb.auto.sums ∙ c.loop-s.invariant.0,
-      found_more s g.F.Arithmetic.prod c.args.nodes.now c.args.count _ n (packet_in s.words c.copy-from-slice.new.self) c.loop-s.sums _ c.loop-s-test.true
-          (λ i k h l. ap (λ r. packet_in s.words r i k) c.copy-from-slice.ensures.after ∙ entry_read s n c.packet-p.result c.loop-s.sums c.packet-p.ensures.value i k h l)
+      found_more s g.F.Arithmetic.prod c.args.nodes.now c.args.count _ n (packet_in s.words c.copy_from_slice.new.self) c.loop-s.sums _ c.loop-s-test.true
+          (λ i k h l. ap (λ r. packet_in s.words r i k) c.copy_from_slice.ensures.after ∙ entry_read s n c.packet-p.result c.loop-s.sums c.packet-p.ensures.value i k h l)
           c.absorb.ensures c.loop-s.invariant.1,
     )
 

@@ -5,10 +5,10 @@ use Rattle.code.proofs.Passes.{runs_pass}
 use Rattle.code.proofs.Runs.{zero_take}
 use Rattle.code.proofs.block.check.Goals as goal
 
-pub is-codeword-answer-requires : goal.is-codeword-answer-requires
-is-codeword-answer-requires g c =
+pub is_codeword-answer-requires : goal.is_codeword-answer-requires
+is_codeword-answer-requires g c =
     let s = c.args.shape.now in
-    let pass = runs_pass g.F.Arithmetic.bits s c.args.block.now c.args.work.now (sym c.in-ok-check-runs.ensures) in
+    let pass = runs_pass g.F.Arithmetic.bits s c.args.block.now c.args.work.now (sym c.in_ok-check_runs.ensures) in
     let run = c.clear.new.run in
     let end = c.parity.result * c.packet.result in
     let is : end ≡ parity_of s * packet_of s = ap₂ ◌*◌ c.parity.ensures c.packet.ensures.value in

@@ -22,7 +22,7 @@ solve-requires g c =
     let whole : c.packet-p.result - 0 ≡ c.packet-p.result = omega arith in
     record {
       width = c.requires.width;
-      sums = c.absorb-held.auto.sums ∙ c.clear.auto.run ∙ c.requires.parity;
+      sums = c.absorb_held.auto.sums ∙ c.clear.auto.run ∙ c.requires.parity;
       scratch = length-take-le (c.packet-p.result - 0) (replicate 160 0) room ∙ whole ∙ c.packet-p.ensures.value;
       count = let k = c.parity-count.ensures in omega arith;
       elements = c.nodes-nodes.ensures.elements;
@@ -37,12 +37,12 @@ returns g c =
     let x = c.nodes-nodes.result in
     let few : l.len ≡ parity_of s = c.parity-losses.ensures.len in
     let laws = laws_of s.rows f.bits f.prod f.inv c.requires.width g.met.F.Arithmetic.field in
-    let S₀ = c.absorb-held.new.sums in
+    let S₀ = c.absorb_held.new.sums in
     let S₁ = c.solve.new.sums in
     let e : c.parity-count.result ≡ l.len = c.parity-count.ensures ∙ sym few in
     let gained : Gained s f.prod l (parity_of s) s.sources c.args.source.now c.clear.new.run S₀ =
     subst (λ n. Gained s f.prod l n s.sources c.args.source.now c.clear.new.run S₀) c.parity-count.ensures
-    (subst (λ k. Gained s f.prod l c.parity-count.result k c.args.source.now c.clear.new.run S₀) c.sources.ensures.value c.absorb-held.ensures) in
+    (subst (λ k. Gained s f.prod l c.parity-count.result k c.args.source.now c.clear.new.run S₀) c.sources.ensures.value c.absorb_held.ensures) in
     let solved : Keeps s f.prod f.inv x l.len (sums_of s f.prod f.inv x l.len) (λ I. I) S₀ S₁ = rw e at c.solve.ensures.solved in
     encoded s f.prod f.inv laws l few c.parity-losses.ensures.at x c.nodes-nodes.ensures.at c.args.source.now c.requires.source c.clear.new.run S₀ S₁ c.clear.ensures gained solved
-    (c.solve.auto.sums ∙ c.absorb-held.auto.sums ∙ c.clear.auto.run ∙ c.requires.parity) (λ k. (c.type-inv.parity k).fits) (λ k. (c.type-inv.source k).fits)
+    (c.solve.auto.sums ∙ c.absorb_held.auto.sums ∙ c.clear.auto.run ∙ c.requires.parity) (λ k. (c.type_inv.parity k).fits) (λ k. (c.type_inv.source k).fits)

@@ -5,11 +5,11 @@ use Rattle.code.proofs.block.is_codeword.Goals as goal
 pub returns-in-None : goal.returns-in-None
 returns-in-None g c =
     let s = c.args.shape.now in
-    let gained : Gained s g.F.Arithmetic.prod c.none-losses.result 0 s.positions c.args.block.now c.args.sums.now c.absorb-held.new.sums = rw c.positions.ensures.value at c.absorb-held.ensures in
-    is_codeword s g.F.Arithmetic.prod c.none-losses.result c.none-losses.ensures c.args.block.now _ _ c.requires.zero gained c.requires.block (λ k. (c.type-inv.block k).fits) c.in-None.ensures
+    let gained : Gained s g.F.Arithmetic.prod c.none-losses.result 0 s.positions c.args.block.now c.args.sums.now c.absorb_held.new.sums = rw c.positions.ensures.value at c.absorb_held.ensures in
+    is_codeword s g.F.Arithmetic.prod c.none-losses.result c.none-losses.ensures c.args.block.now _ _ c.requires.zero gained c.requires.block (λ k. (c.type_inv.block k).fits) c.in-None.ensures
 
 pub returns-in-Some : goal.returns-in-Some
 returns-in-Some g c =
     let s = c.args.shape.now in
-    let gained : Gained s g.F.Arithmetic.prod c.none-losses.result 0 s.positions c.args.block.now c.args.sums.now c.absorb-held.new.sums = rw c.positions.ensures.value at c.absorb-held.ensures in
+    let gained : Gained s g.F.Arithmetic.prod c.none-losses.result 0 s.positions c.args.block.now c.args.sums.now c.absorb_held.new.sums = rw c.positions.ensures.value at c.absorb_held.ensures in
     no_codeword s g.F.Arithmetic.prod c.none-losses.result c.none-losses.ensures c.args.block.now _ _ c.requires.zero gained _ _ c.in-Some.ensures

@@ -8,15 +8,15 @@ use Rattle.code.proofs.block.repair.Goals as goal
 pub restore-outcome-requires : goal.restore-outcome-requires
 restore-outcome-requires g c =
     let s = c.args.shape.now in
-    let pass = runs_pass g.F.Arithmetic.bits s c.args.block.now c.args.work.now (sym c.in-ok-check-runs.ensures) in
-    let fine = losses_pass s c.args.losses.now (sym c.in-ok-repairable.ensures) in
+    let pass = runs_pass g.F.Arithmetic.bits s c.args.block.now c.args.work.now (sym c.in_ok-check_runs.ensures) in
+    let fine = losses_pass s c.args.losses.now (sym c.in_ok-repairable.ensures) in
     let mid : c.parity.result * c.packet.result ≡ parity_of s * packet_of s = ap₂ ◌*◌ c.parity.ensures c.packet.ensures.value in
     let d = add-mul (parity_of s) 1 (packet_of s) in
     record {
       width = pass.width;
-      sums = c.split-at-mut-sums.ensures.front-len ∙ mid;
-      zero = zero_front _ _ (subst ZeroRun c.split-at-mut-sums.ensures.value c.clear.ensures);
-      scratch = let b = c.split-at-mut-sums.ensures.back_len in let k = c.clear.auto.run in let w = pass.work_size in omega arith;
+      sums = c.split_at_mut-sums.ensures.front_len ∙ mid;
+      zero = zero_front _ _ (subst ZeroRun c.split_at_mut-sums.ensures.value c.clear.ensures);
+      scratch = let b = c.split_at_mut-sums.ensures.back_len in let k = c.clear.auto.run in let w = pass.work_size in omega arith;
       block = pass.block_size;
       count = fine.1;
       below = fine.0;

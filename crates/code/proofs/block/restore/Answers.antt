@@ -24,7 +24,7 @@ solve-requires g c =
     let apart = lost_apart s f.prod f.inv laws l c.requires.below c.requires.count c.nodes-nodes.result c.nodes-nodes.ensures.at in
     record {
       width = c.requires.width;
-      sums = c.absorb-held.auto.sums ∙ c.requires.sums;
+      sums = c.absorb_held.auto.sums ∙ c.requires.sums;
       scratch = c.requires.scratch;
       count = let k = c.requires.count in omega arith;
       elements = c.nodes-nodes.ensures.elements;
@@ -39,13 +39,13 @@ returns-in-Some g c =
     let x = c.nodes-nodes.result in
     let e = c.positions-count.ensures.len in
     let laws = laws_of s.rows f.bits f.prod f.inv c.requires.width g.met.F.Arithmetic.field in
-    let S₀ = c.absorb-held.new.sums in
+    let S₀ = c.absorb_held.new.sums in
     let S₁ = c.solve.new.sums in
-    let V = c.add-found.new.sums in
-    let gained : Gained s f.prod l 0 s.positions c.args.block.now c.args.sums.now S₀ = subst (λ n. Gained s f.prod l 0 n c.args.block.now c.args.sums.now S₀) c.positions.ensures.value c.absorb-held.ensures in
+    let V = c.add_found.new.sums in
+    let gained : Gained s f.prod l 0 s.positions c.args.block.now c.args.sums.now S₀ = subst (λ n. Gained s f.prod l 0 n c.args.block.now c.args.sums.now S₀) c.positions.ensures.value c.absorb_held.ensures in
     let solved : Keeps s f.prod f.inv x l.len (sums_of s f.prod f.inv x l.len) (λ I. I) S₀ S₁ = rw e at c.solve.ensures.solved in
     let kept : Untouched s f.prod l.len S₀ S₁ = rw e at c.solve.ensures.off in
-    let added : FoundAdded s f.prod x l.len l.len S₁ V = rw e at c.add-found.ensures in
+    let added : FoundAdded s f.prod x l.len l.len S₁ V = rw e at c.add_found.ensures in
     let first : FirstAt s V l.len c.in-Some.sum c.in-Some.word = subst (λ n. FirstAt s V n c.in-Some.sum c.in-Some.word) e c.in-Some.ensures in
     record {
       sum = c.in-Some.sum;
@@ -63,13 +63,13 @@ returns g c =
     let x = c.nodes-nodes.result in
     let e = c.positions-count.ensures.len in
     let laws = laws_of s.rows f.bits f.prod f.inv c.requires.width g.met.F.Arithmetic.field in
-    let S₀ = c.absorb-held.new.sums in
+    let S₀ = c.absorb_held.new.sums in
     let S₁ = c.solve.new.sums in
-    let V = c.add-found.new.sums in
-    let gained : Gained s f.prod l 0 s.positions c.args.block.now c.args.sums.now S₀ = subst (λ n. Gained s f.prod l 0 n c.args.block.now c.args.sums.now S₀) c.positions.ensures.value c.absorb-held.ensures in
+    let V = c.add_found.new.sums in
+    let gained : Gained s f.prod l 0 s.positions c.args.block.now c.args.sums.now S₀ = subst (λ n. Gained s f.prod l 0 n c.args.block.now c.args.sums.now S₀) c.positions.ensures.value c.absorb_held.ensures in
     let solved : Keeps s f.prod f.inv x l.len (sums_of s f.prod f.inv x l.len) (λ I. I) S₀ S₁ = rw e at c.solve.ensures.solved in
     let kept : Untouched s f.prod l.len S₀ S₁ = rw e at c.solve.ensures.off in
-    let added : FoundAdded s f.prod x l.len l.len S₁ V = rw e at c.add-found.ensures in
-    let zero-behind : ZeroSums s V l.len (parity_of s) = subst (λ n. ZeroSums s V n (parity_of s)) e c.in-default.ensures in
+    let added : FoundAdded s f.prod x l.len l.len S₁ V = rw e at c.add_found.ensures in
+    let zero-behind : ZeroSums s V l.len (parity_of s) = subst (λ n. ZeroSums s V n (parity_of s)) e c.in_default.ensures in
     repaired s f.prod f.inv laws l c.requires.below c.requires.count x c.nodes-nodes.ensures.at c.args.block.now c.requires.block _ S₀ S₁ V c.requires.zero gained solved kept added
-    c.write-found.new.block c.write-found.auto.block (λ k. (c.type-inv.block k).fits) zero-behind c.write-found.ensures
+    c.write_found.new.block c.write_found.auto.block (λ k. (c.type_inv.block k).fits) zero-behind c.write_found.ensures

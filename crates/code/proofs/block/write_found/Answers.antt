@@ -7,15 +7,15 @@ use Rattle.code.proofs.Entries.{entry_read}
 use Rattle.code.proofs.Founds.{written_none, written_more}
 use Rattle.code.proofs.block.write_found.Goals as goal
 
-pub slice-bounds-write-packet-end : goal.slice-bounds-write-packet-end
-slice-bounds-write-packet-end c =
+pub slice_bounds-write_packet-end : goal.slice_bounds-write_packet-end
+slice_bounds-write_packet-end c =
     let e = c.positions-at-items.ensures.len in
     let lt : c.loop-s.s < parity_of c.args.shape.now = let h = c.loop-s-test.true in let k = c.requires.count in omega arith in
     let h = part_ends c.loop-s.s _ c.packet-p.result refl c.packet-p.ensures.value c.requires.sums lt in
     search rules
 
-pub write-packet-requires : goal.write-packet-requires
-write-packet-requires c =
+pub write_packet-requires : goal.write_packet-requires
+write_packet-requires c =
     let e = c.positions-at-items.ensures.len in
     let listed : c.loop-s.s < c.args.losses.now.len = let h = c.loop-s-test.true in omega arith in
     let lt : c.loop-s.s < parity_of c.args.shape.now = let k = c.requires.count in omega arith in
@@ -36,9 +36,9 @@ loop-s-preserved c =
     let listed : n < c.args.losses.now.len = let e = c.positions-at-items.ensures.len in let h = c.loop-s-test.true in omega arith in
     let place = c.positions-at-items.ensures.places n listed in
     written_more s c.args.losses.now c.args.sums.now _ n c.loop-s.block _ listed
-    (λ i k h l. ap (λ q. block_at s c.write-packet.new.block q i k) (sym place) ∙ c.write-packet.ensures.at i k h l
+    (λ i k h l. ap (λ q. block_at s c.write_packet.new.block q i k) (sym place) ∙ c.write_packet.ensures.at i k h l
     ∙ entry_read s n c.packet-p.result c.args.sums.now c.packet-p.ensures.value i k h l)
-    (λ q i k ne h l. c.write-packet.ensures.off q i k (λ z. ne (z ∙ place)) h l) c.loop-s.invariant
+    (λ q i k ne h l. c.write_packet.ensures.off q i k (λ z. ne (z ∙ place)) h l) c.loop-s.invariant
 
 pub returns : goal.returns
 returns c =

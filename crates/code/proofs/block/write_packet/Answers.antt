@@ -4,13 +4,13 @@ use Rattle.code.proofs.Places.{part_ends}
 use Rattle.code.proofs.Entries.{entry_written, entry_kept}
 use Rattle.code.proofs.block.write_packet.Goals as goal
 
-pub overflow-mul-position : goal.overflow-mul-position
-overflow-mul-position c =
+pub overflow_mul-position : goal.overflow_mul-position
+overflow_mul-position c =
     let h = part_ends c.args.position _ c.packet-p.result refl c.packet-p.ensures.value c.requires.block c.requires.position in
     search rules
 
-pub slice-bounds-copy-from-slice-end : goal.slice-bounds-copy-from-slice-end
-slice-bounds-copy-from-slice-end c =
+pub slice_bounds-copy_from_slice-end : goal.slice_bounds-copy_from_slice-end
+slice_bounds-copy_from_slice-end c =
     let h = part_ends c.args.position _ c.packet-p.result refl c.packet-p.ensures.value c.requires.block c.requires.position in
     search rules
 
@@ -21,10 +21,10 @@ returns c =
     let v = c.packet-p.result in
     let size = c.packet-p.ensures.value in
     let t = c.args.block.now in
-    let y = c.copy-from-slice.new.self in
+    let y = c.copy_from_slice.new.self in
     let fits : q * v + v ≤ length t = part_ends q _ v refl size c.requires.block c.requires.position in
-    let long : length y ≡ v = ap length c.copy-from-slice.ensures.after ∙ (let e = c.requires.packet in omega arith) in
+    let long : length y ≡ v = ap length c.copy_from_slice.ensures.after ∙ (let e = c.requires.packet in omega arith) in
     record {
-      at = λ i k h l. entry_written s q v t size _ y (omega arith) fits long i k h l ∙ ap (λ r. packet_in s.words r i k) c.copy-from-slice.ensures.after;
+      at = λ i k h l. entry_written s q v t size _ y (omega arith) fits long i k h l ∙ ap (λ r. packet_in s.words r i k) c.copy_from_slice.ensures.after;
       off = λ p i k n h l. entry_kept s q v t size _ y (omega arith) fits long p n i k h l;
     }

@@ -7,8 +7,8 @@ use Rattle.code.proofs.Rows.{selected_none, selected_set, selected_clear}
 use Rattle.code.proofs.packet.add_selected.Goals as goal
 use Rattle.code.proofs.packet.add_selected.Goals.{then-columns-j-eq1, else-columns-j-eq1}
 
-pub slice-bounds-add-words-end : goal.slice-bounds-add-words-end
-slice-bounds-add-words-end c =
+pub slice_bounds-add_words-end : goal.slice_bounds-add_words-end
+slice_bounds-add_words-end c =
     let h = part_ends c.loop-j.j c.rows-j-end.result c.words-w.result c.rows-j-end.ensures c.words-w.ensures c.requires.source c.loop-j-test.true in
     search rules
 
@@ -29,7 +29,7 @@ loop-j-preserved c = λ k h.
     let width = c.words-w.ensures in
     elim c.if-columns-j-eq1.branch [
       | then-columns-j-eq1 w ↦
-          ap (λ r. get_or r k 0) w.row-is ∙ w.add-words.ensures k (omega arith)
+          ap (λ r. get_or r k 0) w.row-is ∙ w.add_words.ensures k (omega arith)
           ∙ ap₂ bit_xor (c.loop-j.invariant k h) (part_read xs j v s.words k width h)
           ∙ xor_assoc (get_or e k 0) (selected j columns c.args.i p k) (p j k)
           ∙ ap (bit_xor (get_or e k 0)) (sym (selected_set columns c.args.i p k j w.if-columns-j-eq1.true))

@@ -12,7 +12,7 @@ returns g c = λ i k h l.
     let f = g.F.Arithmetic in
     let s = c.args.shape.now in
     let a = c.args.a % 2 ^ f.bits in
-    c.add-product.ensures i k h l
+    c.add_product.ensures i k h l
     ∙ ap (bit_xor (packet_in s.words c.args.target.now i k))
     (xors_ext s.rows _ _ (λ j lt. ap (λ e. bit i e * packet_in s.words c.args.source.now j k)
     (c.columns.ensures j (let e = c.requires.width in omega arith) ∙ ap (f.prod a) (sym (power_alpha g.met.F.Arithmetic.field j (let e = c.requires.width in omega arith))))))

@@ -31,8 +31,8 @@ loop-i-preserved g c =
     let laws = laws_of s.rows f.bits f.prod f.inv c.requires.width g.met.F.Arithmetic.field in
     let ox : (k : ℕ) → node_at x k < 2 ^ s.rows = λ k. rw c.requires.width (c.requires.elements k) in
     let node : node_at x (j - 1) % 2 ^ f.bits ≡ node_at x (j - 1) = mod-eq_of_lt (c.requires.elements (j - 1)) in
-    let d : Stepped s f.prod (node_at x (j - 1)) (i - 1) (i - 1 - 1) c.loop-i.sums c.add-entry.new.sums =
-    subst (λ a. Stepped s f.prod a (i - 1) (i - 1 - 1) c.loop-i.sums c.add-entry.new.sums) node c.add-entry.ensures in (
+    let d : Stepped s f.prod (node_at x (j - 1)) (i - 1) (i - 1 - 1) c.loop-i.sums c.add_entry.new.sums =
+    subst (λ a. Stepped s f.prod a (i - 1) (i - 1 - 1) c.loop-i.sums c.add_entry.new.sums) node c.add_entry.ensures in (
       λ I. Iff.trans (c.loop-i.invariant.0 I) (stage_turn s f.prod f.inv laws x ox c.args.count (j - 1) (i - 1) (i - 1 - 1) (i - j) (i - 1 - j) (omega arith) (omega arith) (omega arith) (omega arith) c.requires.count _ _ d I),
       λ μ h k a b p q. d.off μ k (λ z. omega arith) a b p q ∙ c.loop-i.invariant.1 μ h k a b p q,
     )

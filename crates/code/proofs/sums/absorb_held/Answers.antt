@@ -13,8 +13,8 @@ use Rattle.code.proofs.Absorbs.{gained_none, gained_held, gained_lost}
 use Rattle.code.proofs.sums.absorb_held.Goals as goal
 use Rattle.code.proofs.sums.absorb_held.Goals.{then-not-contains, else-not-contains}
 
-pub slice-bounds-absorb-end : goal.slice-bounds-absorb-end
-slice-bounds-absorb-end g c =
+pub slice_bounds-absorb-end : goal.slice_bounds-absorb-end
+slice_bounds-absorb-end g c =
     let h = part_ends c.loop-i.i _ c.packet-p.result refl c.packet-p.ensures.value c.requires.run c.loop-i-test.true in
     search rules
 

@@ -21,5 +21,5 @@ returns-in-Packet c =
     let len = c.if-run-length.false ∙ c.length.ensures in
     let fits-it : fits (packet f.block f.position f.payload.now) ≡ true = ap fits (sym is) ∙ fit in
     let written = packet_written f.block f.position f.payload.now c.args.run.now fits-it (len ∙ ap (λ s. length (frame_words s)) is) _ refl in
-    let e = (simp c.copy-from-slice.ensures.after written) ∙ ap frame_words (sym is) in
+    let e = (simp c.copy_from_slice.ensures.after written) ∙ ap frame_words (sym is) in
     record { answer = accepted _ _ fit len; after = e; back = ap parse e ∙ back _ fit }

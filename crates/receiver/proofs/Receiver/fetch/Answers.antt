@@ -6,8 +6,8 @@ use Rattle.receiver.proofs.Receiver.fetch.Goals as goal
 pub returns : goal.returns
 returns g c =
     let m = means g.S.SlotStore.capacity g.S.SlotStore.grid c.args.self.now in
-    let s = c.in-ok-shape.shape in
-    let is = c.in-ok-shape.ensures in
+    let s = c.in_ok-shape.shape in
+    let is = c.in_ok-shape.ensures in
     let row : c.args.block < s.blocks = omega (arith, c.blocks-2.ensures.value) in
     let column : c.args.position < s.positions = omega (arith, c.positions.ensures.value) in
     record {

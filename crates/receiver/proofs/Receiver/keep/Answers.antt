@@ -16,8 +16,8 @@ returns-then-branch-2 g c =
     let long : length ws ≡ packet_of s = c.if-payload-packet.false ∙ c.packet.ensures.value in
     let row : i < s.blocks = omega (arith, c.blocks-2.ensures.value) in
     let column : j < s.positions = omega (arith, c.positions.ensures.value) in
-    let inside = held_inside m.grid i j c.in-ok-held.field-0 c.in-ok-held.ensures.answer in
-    let held = slot_held (m.grid.slots i j) ws (sym c.if-branch-2.true ∙ c.in-ok-holds.ensures) in
+    let inside = held_inside m.grid i j c.in_ok-held.field-0 c.in_ok-held.ensures.answer in
+    let held = slot_held (m.grid.slots i j) ws (sym c.if-branch-2.true ∙ c.in_ok-holds.ensures) in
     record {
       answer = λ _. sym (only_other s m i j ws c.requires long row column ∙ same_allowed (m.grid.slots i j) ws held);
       after = record { same = refl; row_inside = inside.row; column_inside = inside.column; held = held };
@@ -35,12 +35,12 @@ returns g c =
     let long : length ws ≡ packet_of s = c.if-payload-packet.false ∙ c.packet.ensures.value in
     let row : i < s.blocks = omega (arith, c.blocks-2.ensures.value) in
     let column : j < s.positions = omega (arith, c.positions.ensures.value) in
-    let h = c.in-ok-put.ensures in
+    let h = c.in_ok-put.ensures in
     let inside = put_inside m.grid i j ws h.answer in
     let empty = put_empty m.grid i j ws h.answer in
     record {
       answer = λ _. sym (only_other s m i j ws c.requires long row column ∙ ap (λ o. other_refusal o ws) empty);
       after = record { shape_same = refl; capacity_same = h.kept; row_inside = inside.row; column_inside = inside.column; was_empty = empty; filled = h.after };
-      sound = filled_sound g.F.Arithmetic.bits s m (g.S.SlotStore.grid c.put.new.self) i j ws c.requires (record { long = long; words = λ k. (c.type-inv.payload k).fits }) h.after;
+      sound = filled_sound g.F.Arithmetic.bits s m (g.S.SlotStore.grid c.put.new.self) i j ws c.requires (record { long = long; words = λ k. (c.type_inv.payload k).fits }) h.after;
       shut = λ _. h.shut;
     }

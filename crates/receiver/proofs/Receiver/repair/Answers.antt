@@ -12,43 +12,43 @@ use Rattle.receiver.proofs.Completing.{fitted_own}
 use Rattle.receiver.proofs.Judging.{repair_checks, few_judged, mended_after, mended_judged, mended_fitted, all_positions}
 use Rattle.receiver.proofs.Receiver.repair.Goals as goal
 
-pub returns-in-err-losses : goal.returns-in-err-losses
-returns-in-err-losses g c =
+pub returns-in_err-losses : goal.returns-in_err-losses
+returns-in_err-losses g c =
     let f = g.F.Arithmetic in
     let T = g.S.SlotStore in
     let m = means T.capacity T.grid c.args.self.now in
-    let s = c.in-ok-shape.shape in
-    let is : m.shape ≡ Some s = c.in-ok-shape.ensures in
+    let s = c.in_ok-shape.shape in
+    let is : m.shape ≡ Some s = c.in_ok-shape.ensures in
     let i = c.args.block in
     let row : i < s.blocks = omega (arith, c.blocks-2.ensures.value) in
-    let long : length c.args.work.now ≡ (parity_of s + 1) * packet_of s = rw c.parity.ensures at (run_passes s (c.parity.result + 1) c.args.work.now 0 (sym c.in-ok-check-run.ensures)) in
-    let p = err_from_is_err_and c.from-residual-in-err-losses.result c.from-residual-in-err-losses.ensures.1 in
-    let few = λ (F : Fitted f.bits s m.grid). c.in-err-losses.ensures.listed (fitted_own f.bits s m.grid F) in
+    let long : length c.args.work.now ≡ (parity_of s + 1) * packet_of s = rw c.parity.ensures at (run_passes s (c.parity.result + 1) c.args.work.now 0 (sym c.in_ok-check_run.ensures)) in
+    let p = err_from_is_err_and c.from-residual-in_err-losses.result c.from-residual-in_err-losses.ensures.1 in
+    let few = λ (F : Fitted f.bits s m.grid). c.in_err-losses.ensures.listed (fitted_own f.bits s m.grid F) in
     rw (p.1, p.2) (record {
       after = λ S. inl (record { refusal = repair_checks s m i c.args.work.now is row long ∙ few (S s is); same = refl; same_work = refl });
       judged = λ S t it _ _.
           let k : Some s ≡ Some t = sym is ∙ it in
           let v : s ≡ t = cc in
           let F = S s is in
-          subst (λ (u : Shape). Judged u f.prod m.grid i (Err c.in-err-losses.field-0.0)) v (few_judged f.bits s f.prod f.inv m.grid i (laws_of s.rows f.bits f.prod f.inv F.width g.met.F.Arithmetic.field) F _ (few F));
+          subst (λ (u : Shape). Judged u f.prod m.grid i (Err c.in_err-losses.field-0.0)) v (few_judged f.bits s f.prod f.inv m.grid i (laws_of s.rows f.bits f.prod f.inv F.width g.met.F.Arithmetic.field) F _ (few F));
       sound = λ S. S;
       shut = λ e. e;
     })
 
 pub mend-outcome-requires : goal.mend-outcome-requires
 mend-outcome-requires g c =
-    let s = c.in-ok-shape.shape in
+    let s = c.in_ok-shape.shape in
     let row : c.args.block < s.blocks = omega (arith, c.blocks-2.ensures.value) in
-    let long : length c.args.work.now ≡ (parity_of s + 1) * packet_of s = rw c.parity.ensures at (run_passes s (c.parity.result + 1) c.args.work.now 0 (sym c.in-ok-check-run.ensures)) in
+    let long : length c.args.work.now ≡ (parity_of s + 1) * packet_of s = rw c.parity.ensures at (run_passes s (c.parity.result + 1) c.args.work.now 0 (sym c.in_ok-check_run.ensures)) in
     let mid : c.parity-2.result * c.packet.result ≡ parity_of s * packet_of s = ap₂ ◌*◌ c.parity-2.ensures c.packet.ensures.value in
     let d = add-mul (parity_of s) 1 (packet_of s) in
     record {
       block = row;
-      sums = c.split-at-mut-sums.ensures.front-len ∙ mid;
-      zero = zero_front _ _ (subst ZeroRun c.split-at-mut-sums.ensures.value c.clear.ensures);
-      scratch = let b = c.split-at-mut-sums.ensures.back_len in let k = c.clear.auto.run in omega arith;
-      count = c.in-ok-losses.ensures.few.0;
-      below = c.in-ok-losses.ensures.few.1;
+      sums = c.split_at_mut-sums.ensures.front_len ∙ mid;
+      zero = zero_front _ _ (subst ZeroRun c.split_at_mut-sums.ensures.value c.clear.ensures);
+      scratch = let b = c.split_at_mut-sums.ensures.back_len in let k = c.clear.auto.run in omega arith;
+      count = c.in_ok-losses.ensures.few.0;
+      below = c.in_ok-losses.ensures.few.1;
     }
 
 pub returns : goal.returns
@@ -56,14 +56,14 @@ returns g c =
     let f = g.F.Arithmetic in
     let T = g.S.SlotStore in
     let m = means T.capacity T.grid c.args.self.now in
-    let s = c.in-ok-shape.shape in
-    let is : m.shape ≡ Some s = c.in-ok-shape.ensures in
+    let s = c.in_ok-shape.shape in
+    let is : m.shape ≡ Some s = c.in_ok-shape.ensures in
     let i = c.args.block in
-    let l = c.in-ok-losses.losses in
+    let l = c.in_ok-losses.losses in
     let work = c.args.work.now in
     let row : i < s.blocks = omega (arith, c.blocks-2.ensures.value) in
-    let long : length work ≡ (parity_of s + 1) * packet_of s = rw c.parity.ensures at (run_passes s (c.parity.result + 1) work 0 (sym c.in-ok-check-run.ensures)) in
-    let listed = λ (F : Fitted f.bits s m.grid). c.in-ok-losses.ensures.listed (fitted_own f.bits s m.grid F) in
+    let long : length work ≡ (parity_of s + 1) * packet_of s = rw c.parity.ensures at (run_passes s (c.parity.result + 1) work 0 (sym c.in_ok-check_run.ensures)) in
+    let listed = λ (F : Fitted f.bits s m.grid). c.in_ok-losses.ensures.listed (fitted_own f.bits s m.grid F) in
     let mended = λ (F : Fitted f.bits s m.grid). c.mend-outcome.ensures.mended F (listed F).0 in
     let r = c.mend-outcome.result in
     record {

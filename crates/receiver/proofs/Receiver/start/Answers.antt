@@ -6,17 +6,17 @@ use Rattle.receiver.proofs.Meanings.{same_meaning}
 use Rattle.receiver.proofs.Starts.{start_answer, starts, start_sound}
 use Rattle.receiver.proofs.Receiver.start.Goals as goal
 
-pub returns-in-err-format : goal.returns-in-err-format
-returns-in-err-format g c =
+pub returns-in_err-format : goal.returns-in_err-format
+returns-in_err-format g c =
     let a = c.args in
     let v = c.args.self.now in
     let F = g.F.Arithmetic in
     let T = g.S.SlotStore in
-    let p = err_from_is_err_and c.from-residual-in-err-format.result c.from-residual-in-err-format.ensures.1 in
-    let h = c.in-err-format.ensures in
-    let made = c.in-ok-shape.ensures in
+    let p = err_from_is_err_and c.from-residual-in_err-format.result c.from-residual-in_err-format.ensures.1 in
+    let h = c.in_err-format.ensures in
+    let made = c.in_ok-shape.ensures in
     rw (p.1, p.2) (record {
-      answer = start_answer F.bits (means T.capacity T.grid v) c.in-ok-shape.shape a.rows a.positions a.sources a.blocks a.words
+      answer = start_answer F.bits (means T.capacity T.grid v) c.in_ok-shape.shape a.rows a.positions a.sources a.blocks a.words
           c.blocks-2.result c.positions.result c.packet.result made.made made.answer c.blocks-2.ensures.value c.positions.ensures.value c.packet.ensures.value _ h.answer;
       after = same_meaning v.shape _ _ _ _ h.kept h.after;
       sound = λ S s e. subst (λ (k : Grid). Fitted F.bits s k) (sym h.after) (S s e);
@@ -29,9 +29,9 @@ returns g c =
     let v = c.args.self.now in
     let F = g.F.Arithmetic in
     let T = g.S.SlotStore in
-    let s = c.in-ok-shape.shape in
-    let h = c.in-ok-format.ensures in
-    let made = c.in-ok-shape.ensures in
+    let s = c.in_ok-shape.shape in
+    let h = c.in_ok-format.ensures in
+    let made = c.in_ok-shape.ensures in
     let ex = c.blocks-2.ensures.value in
     let ey = c.positions.ensures.value in
     let ez = c.packet.ensures.value in

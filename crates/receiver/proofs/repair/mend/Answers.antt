@@ -9,21 +9,21 @@ use Rattle.receiver.specs.Blocks.{block_of, Missing}
 use Rattle.receiver.proofs.Completing.{fitted_own, missing_gone, completes, still_fitted}
 use Rattle.receiver.proofs.repair.mend.Goals as goal
 
-pub returns-in-err-rebuild : goal.returns-in-err-rebuild
-returns-in-err-rebuild g c =
+pub returns-in_err-rebuild : goal.returns-in_err-rebuild
+returns-in_err-rebuild g c =
     let f = g.F.Arithmetic in
     let s = c.args.shape.now in
     let l = c.args.losses.now in
     let i = c.args.block in
     let G = g.S.SlotStore.grid c.args.store.now in
-    let S = c.absorb-held.new.sums in
-    let p = err_from_is_err_and c.from-residual-in-err-rebuild.result c.from-residual-in-err-rebuild.ensures.1 in
+    let S = c.absorb_held.new.sums in
+    let p = err_from_is_err_and c.from-residual-in_err-rebuild.result c.from-residual-in_err-rebuild.ensures.1 in
     rw (p.1, p.2) (record {
       mended = λ F M. (
-        found-lost s f.prod l c.requires.below c.requires.count (block_of s G i) (block_of s G i) (λ q _ _ j k _ _. refl) (missing_gone f.bits s f.prod l G i F c.requires.block M) S (c.in-ok-absorb-held.ensures F)
-            f.bits c.rebuild.new.sums c.absorb-held.new.scratch c.rebuild.new.scratch (Err _)
-            (rebuild_passes f.bits s F.width S (c.absorb-held.auto.sums ∙ c.requires.sums) l c.absorb-held.new.scratch c.requires.below c.requires.count (c.absorb-held.auto.scratch ∙ c.requires.scratch))
-            c.in-err-rebuild.ensures,
+        found-lost s f.prod l c.requires.below c.requires.count (block_of s G i) (block_of s G i) (λ q _ _ j k _ _. refl) (missing_gone f.bits s f.prod l G i F c.requires.block M) S (c.in_ok-absorb_held.ensures F)
+            f.bits c.rebuild.new.sums c.absorb_held.new.scratch c.rebuild.new.scratch (Err _)
+            (rebuild_passes f.bits s F.width S (c.absorb_held.auto.sums ∙ c.requires.sums) l c.absorb_held.new.scratch c.requires.below c.requires.count (c.absorb_held.auto.scratch ∙ c.requires.scratch))
+            c.in_err-rebuild.ensures,
         refl,
       );
       kept = refl;
@@ -37,21 +37,21 @@ returns g c =
     let l = c.args.losses.now in
     let i = c.args.block in
     let G = g.S.SlotStore.grid c.args.store.now in
-    let H = g.S.SlotStore.grid c.put-found.new.store in
-    let S = c.absorb-held.new.sums in
+    let H = g.S.SlotStore.grid c.put_found.new.store in
+    let S = c.absorb_held.new.sums in
     let V = c.rebuild.new.sums in
-    let size : Packets s (parity_of s) V = c.rebuild.auto.sums ∙ c.absorb-held.auto.sums ∙ c.requires.sums in
+    let size : Packets s (parity_of s) V = c.rebuild.auto.sums ∙ c.absorb_held.auto.sums ∙ c.requires.sums in
     record {
       mended = λ F M.
-          let L = found-lost s f.prod l c.requires.below c.requires.count (block_of s G i) (block_of s G i) (λ q _ _ j k _ _. refl) (missing_gone f.bits s f.prod l G i F c.requires.block M) S (c.in-ok-absorb-held.ensures F)
-          f.bits V c.absorb-held.new.scratch c.rebuild.new.scratch (Ok tt)
-          (rebuild_passes f.bits s F.width S (c.absorb-held.auto.sums ∙ c.requires.sums) l c.absorb-held.new.scratch c.requires.below c.requires.count (c.absorb-held.auto.scratch ∙ c.requires.scratch))
-          c.in-ok-rebuild.ensures in
-          let P = c.in-ok-put-found.ensures.put (fitted_own f.bits s G F) M in (
+          let L = found-lost s f.prod l c.requires.below c.requires.count (block_of s G i) (block_of s G i) (λ q _ _ j k _ _. refl) (missing_gone f.bits s f.prod l G i F c.requires.block M) S (c.in_ok-absorb_held.ensures F)
+          f.bits V c.absorb_held.new.scratch c.rebuild.new.scratch (Ok tt)
+          (rebuild_passes f.bits s F.width S (c.absorb_held.auto.sums ∙ c.requires.sums) l c.absorb_held.new.scratch c.requires.below c.requires.count (c.absorb_held.auto.scratch ∙ c.requires.scratch))
+          c.in_ok-rebuild.ensures in
+          let P = c.in_ok-put_found.ensures.put (fitted_own f.bits s G F) M in (
             c.positions.ensures.len,
-            completes f.bits s f.prod l G i F c.requires.block M V H size c.in-ok-put-found.ensures.words P L,
-            still_fitted f.bits s f.prod l G i F c.requires.block M V H size c.in-ok-put-found.ensures.words P L,
+            completes f.bits s f.prod l G i F c.requires.block M V H size c.in_ok-put_found.ensures.words P L,
+            still_fitted f.bits s f.prod l G i F c.requires.block M V H size c.in_ok-put_found.ensures.words P L,
           );
-      kept = c.in-ok-put-found.ensures.kept;
-      shut = c.in-ok-put-found.ensures.shut;
+      kept = c.in_ok-put_found.ensures.kept;
+      shut = c.in_ok-put_found.ensures.shut;
     }

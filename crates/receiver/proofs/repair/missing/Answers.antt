@@ -18,7 +18,7 @@ returns-then-count-parity g c =
     let n = c.loop-position.position in
     let lt : n < s.positions = omega (arith, c.positions-position-end.ensures.value) in
     let le : parity_of s ≤ c.loop-position.count = omega (arith, c.parity.ensures) in
-    let is = held_is G c.args.block n _ c.in-ok-held.ensures.answer ∙ c.if-not-branch.true in
+    let is = held_is G c.args.block n _ c.in_ok-held.ensures.answer ∙ c.if-not-branch.true in
     record { few = tt; listed = λ F. too_few s G c.args.block n c.loop-position.positions c.loop-position.count c.loop-position.invariant.2 lt le is }
 
 pub loop-position-preserved : goal.loop-position-preserved
@@ -29,7 +29,7 @@ loop-position-preserved g c =
     let n = c.loop-position.position in
     let xs = c.loop-position.positions in
     let t = c.loop-position.count in
-    let is = held_is G c.args.block n _ c.in-ok-held.ensures.answer in
+    let is = held_is G c.args.block n _ c.in_ok-held.ensures.answer in
     elim c.if-not-branch.branch [
       | then-not-branch+else-count-parity w ↦
           let less : t < parity_of s = omega (arith, w.parity.ensures, w.if-count-parity.false) in

@@ -9,8 +9,8 @@ use Rattle.receiver.specs.Steps.{Put}
 use Rattle.receiver.proofs.Putting.{put_none, put_more, put_passes}
 use Rattle.receiver.proofs.repair.put_found.Goals as goal
 
-pub slice-bounds-put-end : goal.slice-bounds-put-end
-slice-bounds-put-end g c =
+pub slice_bounds-put-end : goal.slice_bounds-put-end
+slice_bounds-put-end g c =
     let e = c.positions-at-items.ensures.len in
     let lt : c.loop-s.s < parity_of c.args.shape.now = let h = c.loop-s-test.true in let k = c.requires.count in omega arith in
     let h = part_ends c.loop-s.s _ c.packet-p.result refl c.packet-p.ensures.value c.requires.run lt in
@@ -19,8 +19,8 @@ slice-bounds-put-end g c =
 pub loop-s-init : goal.loop-s-init
 loop-s-init g c = (λ F M. put_none _ _ _ _ _, refl, λ e. e)
 
-pub returns-in-err-put : goal.returns-in-err-put
-returns-in-err-put g c =
+pub returns-in_err-put : goal.returns-in_err-put
+returns-in_err-put g c =
     let s = c.args.shape.now in
     let l = c.args.losses.now in
     let T = g.S.SlotStore in
@@ -30,13 +30,13 @@ returns-in-err-put g c =
     let listed : n < l.len = let e = c.positions-at-items.ensures.len in let h = c.loop-s-test.true in omega arith in
     let lt : n < parity_of s = let k = c.requires.count in omega arith in
     let fits = part_ends n _ v refl c.packet-p.ensures.value c.requires.run lt in
-    let h = c.in-err-put.ensures in
+    let h = c.in_err-put.ensures in
     let place = c.positions-at-items.ensures.places n listed in
     let ws = between (n * v) (n * v + v) run in
     record {
       put = λ F M. passed _ _ (put_passes s l c.args.block run (T.grid c.args.store.now) s.rows F c.requires.block M n ws (T.grid c.loop-s.store) listed (part_length run n v fits ∙ c.packet-p.ensures.value) (c.loop-s.invariant.0 F M))
           (h.answer ∙ ap (λ q. put_refusal (T.grid c.loop-s.store) c.args.block q ws) place);
-      words = λ k. (c.type-inv.run k).fits;
+      words = λ k. (c.type_inv.run k).fits;
       kept = h.kept ∙ c.loop-s.invariant.1;
       shut = λ _. h.shut;
     }
@@ -50,7 +50,7 @@ loop-s-preserved g c =
     let v = c.packet-p.result in
     let run = c.args.run.now in
     let listed : n < l.len = let e = c.positions-at-items.ensures.len in let h = c.loop-s-test.true in omega arith in
-    let h = c.in-ok-put.ensures in
+    let h = c.in_ok-put.ensures in
     let place = c.positions-at-items.ensures.places n listed in
     let ws = between (n * v) (n * v + v) run in (
       λ F M. put_more s l c.args.block run (T.grid c.args.store.now) n ws (T.grid c.loop-s.store) (T.grid c.put.new.self) listed
@@ -62,4 +62,4 @@ loop-s-preserved g c =
 pub returns : goal.returns
 returns g c =
     let all : c.loop-s.s ≡ c.args.losses.now.len = let e = c.positions-at-items.ensures.len in omega arith in
-    record { put = rw all at c.loop-s.invariant.0; words = λ k. (c.type-inv.run k).fits; kept = c.loop-s.invariant.1; shut = c.loop-s.invariant.2 }
+    record { put = rw all at c.loop-s.invariant.0; words = λ k. (c.type_inv.run k).fits; kept = c.loop-s.invariant.1; shut = c.loop-s.invariant.2 }

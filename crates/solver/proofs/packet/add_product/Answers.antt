@@ -7,8 +7,8 @@ use Rattle.layout.proofs.Parts.{part_read, part_length}
 use Rattle.solver.proofs.Rows.{rows_none, rows_more}
 use Rattle.solver.proofs.packet.add_product.Goals as goal
 
-pub slice-bounds-add-selected-end : goal.slice-bounds-add-selected-end
-slice-bounds-add-selected-end c =
+pub slice_bounds-add_selected-end : goal.slice_bounds-add_selected-end
+slice_bounds-add_selected-end c =
     let h = part_ends c.loop-i.i c.rows-i-end.result c.words-w.result c.rows-i-end.ensures c.words-w.ensures c.requires.target c.loop-i-test.true in
     search rules
 
@@ -24,8 +24,8 @@ loop-i-preserved c =
     let width = c.words-w.ensures in
     let fits : i * v + v ≤ length t = part_ends i c.rows-i-end.result v c.rows-i-end.ensures width (c.loop-i.auto.target ∙ c.requires.target) c.loop-i-test.true in
     let long = part_length t i v fits in
-    rows_more s.rows s.words c.args.columns c.args.source.now i v _ _ t c.add-selected.new.row width (omega arith) fits (omega arith)
-    (λ k l. c.add-selected.ensures k l ∙ ap (λ u. bit_xor u (selected s.rows c.args.columns i (packet_in s.words c.args.source.now) k)) (part_read t i v s.words k width l))
+    rows_more s.rows s.words c.args.columns c.args.source.now i v _ _ t c.add_selected.new.row width (omega arith) fits (omega arith)
+    (λ k l. c.add_selected.ensures k l ∙ ap (λ u. bit_xor u (selected s.rows c.args.columns i (packet_in s.words c.args.source.now) k)) (part_read t i v s.words k width l))
     c.loop-i.invariant
 
 pub returns : goal.returns

@@ -40,10 +40,10 @@ returns-in-Some g c =
     let laws = laws_of s.rows f.bits f.prod f.inv c.requires.width g.met.F.Arithmetic.field in
     let S₀ = c.args.sums.now in
     let S₁ = c.solve.new.sums in
-    let V = c.add-found.new.sums in
+    let V = c.add_found.new.sums in
     let solved : Keeps s f.prod f.inv x l.len (sums_of s f.prod f.inv x l.len) (λ I. I) S₀ S₁ = rw e at c.solve.ensures.solved in
     let kept : Untouched s f.prod l.len S₀ S₁ = rw e at c.solve.ensures.off in
-    let added : FoundAdded s f.prod x l.len l.len S₁ V = rw e at c.add-found.ensures in
+    let added : FoundAdded s f.prod x l.len l.len S₁ V = rw e at c.add_found.ensures in
     let first : FirstAt s V l.len c.in-Some.sum c.in-Some.word = subst (λ n. FirstAt s V n c.in-Some.sum c.in-Some.word) e c.in-Some.ensures in
     record {
       sum = c.in-Some.sum;
@@ -63,9 +63,9 @@ returns g c =
     let laws = laws_of s.rows f.bits f.prod f.inv c.requires.width g.met.F.Arithmetic.field in
     let S₀ = c.args.sums.now in
     let S₁ = c.solve.new.sums in
-    let V = c.add-found.new.sums in
+    let V = c.add_found.new.sums in
     let solved : Keeps s f.prod f.inv x l.len (sums_of s f.prod f.inv x l.len) (λ I. I) S₀ S₁ = rw e at c.solve.ensures.solved in
     let kept : Untouched s f.prod l.len S₀ S₁ = rw e at c.solve.ensures.off in
-    let added : FoundAdded s f.prod x l.len l.len S₁ V = rw e at c.add-found.ensures in
-    let zero-behind : ZeroSums s V l.len (parity_of s) = subst (λ n. ZeroSums s V n (parity_of s)) e c.in-default.ensures in
+    let added : FoundAdded s f.prod x l.len l.len S₁ V = rw e at c.add_found.ensures in
+    let zero-behind : ZeroSums s V l.len (parity_of s) = subst (λ n. ZeroSums s V n (parity_of s)) e c.in_default.ensures in
     rebuilt s f.prod f.inv laws l c.requires.below x c.nodes-nodes.ensures.at S₀ S₁ V solved kept added zero-behind

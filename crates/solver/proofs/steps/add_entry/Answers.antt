@@ -8,13 +8,13 @@ use Rattle.layout.proofs.Parts.{part_length}
 use Rattle.layout.proofs.Entries.{entry_read, entry_written, entry_kept}
 use Rattle.solver.proofs.steps.add_entry.Goals as goal
 
-pub slice-bounds-copy-from-slice-end : goal.slice-bounds-copy-from-slice-end
-slice-bounds-copy-from-slice-end g c =
+pub slice_bounds-copy_from_slice-end : goal.slice_bounds-copy_from_slice-end
+slice_bounds-copy_from_slice-end g c =
     let h = part_ends c.args.from _ c.packet-p.result refl c.packet-p.ensures.value c.requires.sums c.requires.from in
     search rules
 
-pub slice-bounds-add-times-end : goal.slice-bounds-add-times-end
-slice-bounds-add-times-end g c =
+pub slice_bounds-add_times-end : goal.slice_bounds-add_times-end
+slice_bounds-add_times-end g c =
     let h = part_ends c.args.to _ c.packet-p.result refl c.packet-p.ensures.value c.requires.sums c.requires.to in
     search rules
 
@@ -30,10 +30,10 @@ returns g c =
     let a = c.args.a % 2 ^ g.F.Arithmetic.bits in
     let fits : to * v + v ≤ length t = part_ends to _ v refl size c.requires.sums c.requires.to in
     let long = part_length t to v fits in
-    let copied = c.copy-from-slice.ensures.after in
+    let copied = c.copy_from_slice.ensures.after in
     record {
-      at = λ i k h l. entry_written s to v t size _ c.add-times.new.target (omega arith) fits (omega arith) i k h l ∙ c.add-times.ensures i k h l
+      at = λ i k h l. entry_written s to v t size _ c.add_times.new.target (omega arith) fits (omega arith) i k h l ∙ c.add_times.ensures i k h l
           ∙ ap₂ bit_xor (entry_read s to v t size i k h l)
           (ap (λ u. scaled C a (packet_in s.words u) i k) copied ∙ scaled_same C a _ (block_at s t from) (entry_read s from v t size) i k l);
-      off = λ μ _ q i k h l. entry_kept s to v t size _ c.add-times.new.target (omega arith) fits (omega arith) μ q i k h l;
+      off = λ μ _ q i k h l. entry_kept s to v t size _ c.add_times.new.target (omega arith) fits (omega arith) μ q i k h l;
     }

@@ -14,26 +14,26 @@ use Rattle.solver.proofs.Stages.{laws_of}
 use Rattle.solver.proofs.Backs.{Cleared, factor, gap_is, cleared_none, cleared_more, cleared_all}
 use Rattle.solver.proofs.steps.backward.Goals as goal
 
-pub slice-bounds-copy-from-slice-end : goal.slice-bounds-copy-from-slice-end
-slice-bounds-copy-from-slice-end g c =
+pub slice_bounds-copy_from_slice-end : goal.slice_bounds-copy_from_slice-end
+slice_bounds-copy_from_slice-end g c =
     let lt : c.args.n < parity_of c.args.shape.now = let h = c.requires.n in let k = c.requires.count in omega arith in
     let h = part_ends c.args.n _ c.packet-p.result refl c.packet-p.ensures.value c.requires.sums lt in
     search rules
 
-pub slice-bounds-add-times-end : goal.slice-bounds-add-times-end
-slice-bounds-add-times-end g c =
+pub slice_bounds-add_times-end : goal.slice_bounds-add_times-end
+slice_bounds-add_times-end g c =
     let lt : c.loop-j.j < parity_of c.args.shape.now = let h = c.requires.n in let k = c.requires.count in let t = c.loop-j-test.true in omega arith in
     let h = part_ends c.loop-j.j _ c.packet-p.result refl c.packet-p.ensures.value c.requires.sums lt in
     search rules
 
-pub slice-bounds-copy-from-slice-end-2 : goal.slice-bounds-copy-from-slice-end-2
-slice-bounds-copy-from-slice-end-2 g c =
+pub slice_bounds-copy_from_slice-end-2 : goal.slice_bounds-copy_from_slice-end-2
+slice_bounds-copy_from_slice-end-2 g c =
     let lt : c.args.n < parity_of c.args.shape.now = let h = c.requires.n in let k = c.requires.count in omega arith in
     let h = part_ends c.args.n _ c.packet-p.result refl c.packet-p.ensures.value c.requires.sums lt in
     search rules
 
-pub slice-bounds-add-words-end : goal.slice-bounds-add-words-end
-slice-bounds-add-words-end g c =
+pub slice_bounds-add_words-end : goal.slice_bounds-add_words-end
+slice_bounds-add_words-end g c =
     let lt : c.args.n < parity_of c.args.shape.now = let h = c.requires.n in let k = c.requires.count in omega arith in
     let h = part_ends c.args.n _ c.packet-p.result refl c.packet-p.ensures.value c.requires.sums lt in
     search rules
@@ -53,20 +53,20 @@ loop-j-preserved g c = λ e d.
     let j = c.loop-j.j in
     let v = c.packet-p.result in
     let t = c.loop-j.sums in
-    let z = packet_in s.words c.copy-from-slice.new.self in
+    let z = packet_in s.words c.copy_from_slice.new.self in
     let size = c.packet-p.ensures.value in
     let laws = laws_of s.rows f.bits f.prod f.inv c.requires.width field in
     let ox : (k : ℕ) → node_at x k < 2 ^ s.rows = λ k. rw c.requires.width (c.requires.elements k) in
     let within : j < parity_of s = let h = c.requires.n in let k = c.requires.count in let l = c.loop-j-test.true in omega arith in
-    let fits : j * v + v ≤ length t = part_ends j _ v refl size (c.loop-j.auto.sums ∙ c.keep-first.auto.sums ∙ c.requires.sums) within in
+    let fits : j * v + v ≤ length t = part_ends j _ v refl size (c.loop-j.auto.sums ∙ c.keep_first.auto.sums ∙ c.requires.sums) within in
     let long = part_length t j v fits in
-    let y = c.add-times.new.target in
+    let y = c.add_times.new.target in
     let gapped : c.gap.result % 2 ^ f.bits ≡ gap (grid_ops C f.inv) (node_at x) j (n - j) (node_at x n) =
     mod-eq_of_lt c.gap.ensures.element ∙ c.gap.ensures.value ∙ gap_is s f.prod f.inv (node_at x) j (n - j) (node_at x n) in
     let is : c.inverse-theta.result ≡ factor s f.prod f.inv x c.args.count n z j = c.inverse-theta.ensures ∙ ap f.inv gapped in
     let lt : c.inverse-theta.result < 2 ^ f.bits = rw c.inverse-theta.ensures (field.inverse_lt _ (mod-lt c.gap.result (pow_pos f.bits))) in
     cleared_more s f.prod f.inv x c.args.count n z laws ox c.requires.apart c.requires.count c.requires.some c.requires.n j e t _ c.loop-j-test.true
-    (λ i k h l. entry_written s j v t size _ y (omega arith) fits (omega arith) i k h l ∙ c.add-times.ensures i k h l
+    (λ i k h l. entry_written s j v t size _ y (omega arith) fits (omega arith) i k h l ∙ c.add_times.ensures i k h l
     ∙ ap₂ (λ a b. bit_xor a (scaled C b z i k)) (entry_read s j v t size i k h l) (mod-eq_of_lt lt ∙ is))
     (λ μ _ q i k h l. entry_kept s j v t size _ y (omega arith) fits (omega arith) μ q i k h l)
     (c.loop-j.invariant e d)
@@ -81,24 +81,24 @@ returns g c =
     let v = c.packet-p.result in
     let e = c.args.sums.now in
     let u = c.loop-j.sums in
-    let z = packet_in s.words c.copy-from-slice.new.self in
+    let z = packet_in s.words c.copy_from_slice.new.self in
     let size = c.packet-p.ensures.value in
     let laws = laws_of s.rows f.bits f.prod f.inv c.requires.width g.met.F.Arithmetic.field in
     let ox : (k : ℕ) → node_at x k < 2 ^ s.rows = λ k. rw c.requires.width (c.requires.elements k) in
     let within : n < parity_of s = let h = c.requires.n in let k = c.requires.count in omega arith in
-    let fits : n * v + v ≤ length u = part_ends n _ v refl size (c.loop-j.auto.sums ∙ c.keep-first.auto.sums ∙ c.requires.sums) within in
+    let fits : n * v + v ≤ length u = part_ends n _ v refl size (c.loop-j.auto.sums ∙ c.keep_first.auto.sums ∙ c.requires.sums) within in
     let long = part_length u n v fits in
-    let y = c.add-words.new.target in
+    let y = c.add_words.new.target in
     let all : c.loop-j.j ≡ n = omega arith in
-    let started : Cleared s f.prod f.inv x c.args.count n z 0 e c.keep-first.new.sums =
-    cleared_none s f.prod f.inv x c.args.count n z laws ox c.requires.apart c.requires.count c.requires.some c.requires.n e c.keep-first.new.sums
-    (λ i k h l. ap (λ r. packet_in s.words r i k) c.copy-from-slice.ensures.after ∙ entry_read s n v e size i k h l) (c.keep-first.ensures f.prod) in
+    let started : Cleared s f.prod f.inv x c.args.count n z 0 e c.keep_first.new.sums =
+    cleared_none s f.prod f.inv x c.args.count n z laws ox c.requires.apart c.requires.count c.requires.some c.requires.n e c.keep_first.new.sums
+    (λ i k h l. ap (λ r. packet_in s.words r i k) c.copy_from_slice.ensures.after ∙ entry_read s n v e size i k h l) (c.keep_first.ensures f.prod) in
     let d : Cleared s f.prod f.inv x c.args.count n z n e u = rw all at (c.loop-j.invariant e started) in
     record {
       keeps = cleared_all s f.prod f.inv x c.args.count n z laws ox c.requires.apart c.requires.count c.requires.some c.requires.n e u _ d
           (λ i k h l. entry_written s n v u size _ y (omega arith) fits (omega arith) i k h l
-          ∙ c.add-words.ensures (i * s.words + k) (let w = word_lt s i k h l in omega arith)
-          ∙ ap₂ bit_xor (entry_read s n v u size i k h l) (ap (λ r. packet_in s.words r i k) c.copy-from-slice-2.ensures.after ∙ first_read s n v u size i k h l))
+          ∙ c.add_words.ensures (i * s.words + k) (let w = word_lt s i k h l in omega arith)
+          ∙ ap₂ bit_xor (entry_read s n v u size i k h l) (ap (λ r. packet_in s.words r i k) c.copy_from_slice-2.ensures.after ∙ first_read s n v u size i k h l))
           (λ μ _ q i k h l. entry_kept s n v u size _ y (omega arith) fits (omega arith) μ q i k h l);
       off = λ μ h k i b p q. entry_kept s n v u size _ y (omega arith) fits (omega arith) μ (λ r. let m = c.requires.n in omega arith) i b p q ∙ d.off μ h k i b p q;
     }

@@ -6,8 +6,8 @@ use Rattle.layout.specs.Sizes.{lost}
 use Rattle.layout.proofs.Parts.{get_or_zeros}
 use Rattle.solver.proofs.steps.nodes.Goals as goal
 
-pub overflow-cast-p : goal.overflow-cast-p
-overflow-cast-p g c =
+pub overflow_cast-p : goal.overflow_cast-p
+overflow_cast-p g c =
     let lt : c.loop-s.s < c.args.losses.now.len = let e = c.positions-p-items.ensures.len in let h = c.loop-s-test.true in omega arith in
     omega (arith, c.positions-p-items.ensures.places c.loop-s.s lt, c.requires c.loop-s.s lt)
 

@@ -10,16 +10,16 @@ use Rattle.layout.specs.Blocks.{code_of, packet_in, block_at}
 use Rattle.layout.proofs.Passes.{pass_both, width_passes, run_passes}
 use Rattle.solver.proofs.sums.absorb.Goals as goal
 
-pub add-packet-requires : goal.add-packet-requires
-add-packet-requires g c =
+pub add_packet-requires : goal.add_packet-requires
+add_packet-requires g c =
     let f = g.F.Arithmetic in
     let laws = g.met.F.Arithmetic.field in
     let s = c.args.shape.now in
     let node : c.raise-x.result ≡ power f.prod 2 c.args.position = c.raise-x.ensures ∙ ap (λ a. power f.prod a c.args.position) (mod-eq_of_lt (two_lt laws)) in
     record {
-      width = width_passes f.bits s (sym c.in-ok-check-width.ensures);
-      sums = rw c.parity.ensures at (run_passes s c.parity.result c.args.sums.now 0 (sym c.in-ok-check-run.ensures));
-      packet = run_passes s 1 c.args.packet.now 1 (sym c.in-ok-check-run-2.ensures) ∙ one-mul (packet_of s);
+      width = width_passes f.bits s (sym c.in_ok-check_width.ensures);
+      sums = rw c.parity.ensures at (run_passes s c.parity.result c.args.sums.now 0 (sym c.in_ok-check_run.ensures));
+      packet = run_passes s 1 c.args.packet.now 1 (sym c.in_ok-check_run-2.ensures) ∙ one-mul (packet_of s);
       first = omega arith;
       element = rw node (power_lt laws 2 c.args.position (two_lt laws));
     }
@@ -34,11 +34,11 @@ returns g c =
     let within : ltb q s.positions ≡ true = let v = c.positions.ensures.value in let h = c.if-position-positions.false in grind arith in
     record {
       answer =
-          sym (pass_both _ _ (sym c.in-ok-check-width.ensures)
-          (pass_both _ _ (ap (λ n. run_refusal s n c.args.sums.now 0) (sym c.parity.ensures) ∙ sym c.in-ok-check-run.ensures)
-          (pass_both _ _ (sym c.in-ok-check-run-2.ensures) (cond-true _ _ _ within))));
+          sym (pass_both _ _ (sym c.in_ok-check_width.ensures)
+          (pass_both _ _ (ap (λ n. run_refusal s n c.args.sums.now 0) (sym c.parity.ensures) ∙ sym c.in_ok-check_run.ensures)
+          (pass_both _ _ (sym c.in_ok-check_run-2.ensures) (cond-true _ _ _ within))));
       after = λ μ h i k a b.
-          c.add-packet.ensures.at μ (omega arith) h i k a b
+          c.add_packet.ensures.at μ (omega arith) h i k a b
           ∙ ap (λ y. bit_xor (block_at s c.args.sums.now μ i k) (scaled (code_of s f.prod) y (packet_in s.words c.args.packet.now) i k))
           (ap (λ y. power f.prod y μ) node ∙ power_mul laws 2 q μ (two_lt laws));
     }

@@ -11,8 +11,8 @@ use Rattle.layout.proofs.Entries.{entry_read}
 use Rattle.solver.proofs.Absorbs.{absorbed_none, absorbed_more}
 use Rattle.solver.proofs.sums.add_packet.Goals as goal
 
-pub slice-bounds-add-times-end : goal.slice-bounds-add-times-end
-slice-bounds-add-times-end g c =
+pub slice_bounds-add_times-end : goal.slice_bounds-add_times-end
+slice_bounds-add_times-end g c =
     let h = part_ends c.loop-sum.sum _ c.packet-p.result c.parity-sum-end.ensures c.packet-p.ensures.value c.requires.sums c.loop-sum-test.true in
     search rules
 
@@ -37,8 +37,8 @@ loop-sum-preserved g c =
     let long = part_length t n v fits in
     let within : n < parity_of s = let e = c.parity-sum-end.ensures in let h = c.loop-sum-test.true in omega arith in (
       c.product-a.ensures ∙ ap₂ f.prod (mod-eq_of_lt c.requires.element) (mod-eq_of_lt lt ∙ is) ∙ ap (power f.prod x) (sym (add-one n)),
-      absorbed_more s f.prod c.args.first x (packet_in s.words c.args.packet.now) _ n v _ t c.add-times.new.target size (omega arith) c.loop-sum.auto.sum within fits (omega arith)
-          (λ i k h l. c.add-times.ensures i k h l
+      absorbed_more s f.prod c.args.first x (packet_in s.words c.args.packet.now) _ n v _ t c.add_times.new.target size (omega arith) c.loop-sum.auto.sum within fits (omega arith)
+          (λ i k h l. c.add_times.ensures i k h l
           ∙ ap₂ (λ u b. bit_xor u (scaled (code_of s f.prod) b (packet_in s.words c.args.packet.now) i k)) (entry_read s n v t size i k h l) (mod-eq_of_lt lt ∙ is))
           c.loop-sum.invariant.1,
     )

@@ -5,8 +5,8 @@ use Rattle.store.proofs.nor.fill_slot.Goals as goal
 
 pub returns : goal.returns
 returns c =
-    let f = sym c.if-not-is-erased.ensures in
+    let f = sym c.if-not-is_erased.ensures in
     record {
       answer = sym (cond-true _ _ _ f);
-      after = c.program-slot.ensures ∙ programs_erased c.args.slot.now (0 ∷ c.args.packet.now) f (omega arith) (word_before c.args.packet.now 0 (Fits-lit tt) c.type-inv.packet);
+      after = c.program_slot.ensures ∙ programs_erased c.args.slot.now (0 ∷ c.args.packet.now) f (omega arith) (word_before c.args.packet.now 0 (Fits-lit tt) c.type_inv.packet);
     }

@@ -18,6 +18,6 @@ returns c =
     record {
       answer = get_is_refused unmarked _ _ _ _ _ _ c.in-Some.at c.args.self.now.words.now c.args.run.now false c.in-Some.ensures
           e c.if-run-self.false;
-      after = c.copy-from-slice.ensures.after ∙ packet_is _ c.in-Some.at _ _ c.if-run-self.false
+      after = c.copy_from_slice.ensures.after ∙ packet_is _ c.in-Some.at _ _ c.if-run-self.false
           ∙ got unmarked _ _ _ _ _ _ c.in-Some.at c.args.self.now.words.now c.args.run.now c.in-Some.ensures e;
     }

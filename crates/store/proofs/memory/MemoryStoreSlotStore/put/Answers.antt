@@ -23,7 +23,7 @@ returns c =
     let w : length ws ≡ c.args.self.now.format.size = c.if-words-self.false in
     let h : at + c.args.self.now.format.size + 1 ≤ length xs = p.within in
     let lt : at < length xs = omega arith in
-    let e = marked_put xs ws c.copy-from-slice.new.self at (at + 1 + length ws - (at + 1)) 1 lt (omega arith) c.copy-from-slice.ensures.after in
+    let e = marked_put xs ws c.copy_from_slice.new.self at (at + 1 + length ws - (at + 1)) 1 lt (omega arith) c.copy_from_slice.ensures.after in
     let len = ap length e ∙ length_put xs (1 ∷ ws) at (omega arith) in
     record {
       answer = put_is_refused unmarked _ _ _ _ _ _ at xs ws true p (unmarked_is xs at _ ∙ eq-eqb _ _ c.if-self-at-ne0.false) w;

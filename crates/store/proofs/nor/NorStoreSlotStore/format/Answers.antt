@@ -5,7 +5,7 @@ use Rattle.store.proofs.nor.NorStoreSlotStore.format.Goals as goal
 pub returns-in-Ok : goal.returns-in-Ok
 returns-in-Ok c =
     let w = c.args.self.now.words.now in
-    let l : length c.format-words.new.words ≡ length w = omega arith in
+    let l : length c.format_words.new.words ≡ length w = omega arith in
     record {
       answer = c.in-Ok.ensures.answer;
       after = format_grid w _ c.args.rows c.args.columns c.args.size l c.in-Ok.ensures.answer c.in-Ok.ensures.run;

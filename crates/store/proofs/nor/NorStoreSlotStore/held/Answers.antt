@@ -9,6 +9,6 @@ returns c =
     let w = c.args.self.now.words.now in
     let at = c.in-Some.at in
     record {
-      answer = held_is erased _ _ _ _ _ _ at (drop 1 w) _ (place_moved _ _ _ _ _ _ _ _ c.saturating-sub.ensures c.in-Some.ensures)
-          (ap erased (sym (past_lock w at c.args.self.now.format.size _ refl)) ∙ sym c.is-erased.ensures);
+      answer = held_is erased _ _ _ _ _ _ at (drop 1 w) _ (place_moved _ _ _ _ _ _ _ _ c.saturating_sub.ensures c.in-Some.ensures)
+          (ap erased (sym (past_lock w at c.args.self.now.format.size _ refl)) ∙ sym c.is_erased.ensures);
     }
