@@ -1,3 +1,4 @@
+use Rattle.std.proofs.Math.Facts.{Fits-lt-pow}
 use Rattle.std.proofs.Common.{◌≡◌, ◌-◌, ◌≤◌, replicate, sym, ◌∙◌, subst, arith}
 use Rattle.std.proofs.lemmas.List.{length-take-le}
 use Rattle.layout.specs.Sizes.{parity_of, LostBelow}
@@ -45,4 +46,4 @@ returns g c =
     (subst (λ k. Gained s f.prod l c.parity-count.result k c.args.source.now c.clear.new.run S₀) c.sources.ensures.value c.absorb_held.ensures) in
     let solved : Keeps s f.prod f.inv x l.len (sums_of s f.prod f.inv x l.len) (λ I. I) S₀ S₁ = rw e at c.solve.ensures.solved in
     encoded s f.prod f.inv laws l few c.parity-losses.ensures.at x c.nodes-nodes.ensures.at c.args.source.now c.requires.source c.clear.new.run S₀ S₁ c.clear.ensures gained solved
-    (c.solve.auto.sums ∙ c.absorb_held.auto.sums ∙ c.clear.auto.run ∙ c.requires.parity) (λ k. (c.type_inv.parity k).fits) (λ k. (c.type_inv.source k).fits)
+    (c.solve.auto.sums ∙ c.absorb_held.auto.sums ∙ c.clear.auto.run ∙ c.requires.parity) (λ k. Fits-lt-pow (c.type_inv.parity k)) (λ k. Fits-lt-pow (c.type_inv.source k))

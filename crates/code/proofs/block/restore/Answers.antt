@@ -1,3 +1,4 @@
+use Rattle.std.proofs.Math.Facts.{Fits-lt-pow}
 use Rattle.std.proofs.Common.{◌^◌, ◌≤◌, length, refl, ◌∙◌, subst, arith, pow_mono}
 use Rattle.layout.specs.Sizes.{parity_of}
 use Rattle.code.specs.Sums.{Gained, ZeroSums, FirstAt}
@@ -72,4 +73,4 @@ returns g c =
     let added : FoundAdded s f.prod x l.len l.len S₁ V = rw e at c.add_found.ensures in
     let zero-behind : ZeroSums s V l.len (parity_of s) = subst (λ n. ZeroSums s V n (parity_of s)) e c.in_default.ensures in
     repaired s f.prod f.inv laws l c.requires.below c.requires.count x c.nodes-nodes.ensures.at c.args.block.now c.requires.block _ S₀ S₁ V c.requires.zero gained solved kept added
-    c.write_found.new.block c.write_found.auto.block (λ k. (c.type_inv.block k).fits) zero-behind c.write_found.ensures
+    c.write_found.new.block c.write_found.auto.block (λ k. Fits-lt-pow (c.type_inv.block k)) zero-behind c.write_found.ensures

@@ -1,3 +1,4 @@
+use Rattle.std.proofs.Math.Facts.{Fits-lt-pow}
 use Rattle.std.proofs.Common.{◌≡◌, ◌<◌, length, sym, refl, ap, ◌∙◌, arith}
 use Rattle.layout.specs.Sizes.{packet_of}
 use Rattle.receiver.specs.Meaning.{means}
@@ -41,6 +42,6 @@ returns g c =
     record {
       answer = λ _. sym (only_other s m i j ws c.requires long row column ∙ ap (λ o. other_refusal o ws) empty);
       after = record { shape_same = refl; capacity_same = h.kept; row_inside = inside.row; column_inside = inside.column; was_empty = empty; filled = h.after };
-      sound = filled_sound g.F.Arithmetic.bits s m (g.S.SlotStore.grid c.put.new.self) i j ws c.requires (record { long = long; words = λ k. (c.type_inv.payload k).fits }) h.after;
+      sound = filled_sound g.F.Arithmetic.bits s m (g.S.SlotStore.grid c.put.new.self) i j ws c.requires (record { long = long; words = λ k. Fits-lt-pow (c.type_inv.payload k) }) h.after;
       shut = λ _. h.shut;
     }

@@ -1,3 +1,4 @@
+use Rattle.std.proofs.Math.Facts.{Fits-lt-pow}
 use Rattle.std.proofs.Common.{◌≡◌, ◌+◌, ◌*◌, ◌<◌, ◌≤◌, length, sym, refl, ap, ◌∙◌, subst, arith, rules}
 use Rattle.std.specs.List.{between}
 use Rattle.layout.specs.Sizes.{parity_of, packet_of, lost}
@@ -36,7 +37,7 @@ returns-in_err-put g c =
     record {
       put = λ F M. passed _ _ (put_passes s l c.args.block run (T.grid c.args.store.now) s.rows F c.requires.block M n ws (T.grid c.loop-s.store) listed (part_length run n v fits ∙ c.packet-p.ensures.value) (c.loop-s.invariant.0 F M))
           (h.answer ∙ ap (λ q. put_refusal (T.grid c.loop-s.store) c.args.block q ws) place);
-      words = λ k. (c.type_inv.run k).fits;
+      words = λ k. Fits-lt-pow (c.type_inv.run k);
       kept = h.kept ∙ c.loop-s.invariant.1;
       shut = λ _. h.shut;
     }
@@ -62,4 +63,4 @@ loop-s-preserved g c =
 pub returns : goal.returns
 returns g c =
     let all : c.loop-s.s ≡ c.args.losses.now.len = let e = c.positions-at-items.ensures.len in omega arith in
-    record { put = rw all at c.loop-s.invariant.0; words = λ k. (c.type_inv.run k).fits; kept = c.loop-s.invariant.1; shut = c.loop-s.invariant.2 }
+    record { put = rw all at c.loop-s.invariant.0; words = λ k. Fits-lt-pow (c.type_inv.run k); kept = c.loop-s.invariant.1; shut = c.loop-s.invariant.2 }
