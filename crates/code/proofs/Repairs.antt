@@ -1,5 +1,5 @@
 -- The packets that the solver finds are those of the codewords that agree with the block.
-use Rattle.std.proofs.Common.{◌≡◌, ℕ, zero, ◌+◌, ◌*◌, ◌^◌, ◌<◌, ◌≤◌, false, cond, ◌↔◌, List, length, get_or, sym, ap, ◌∙◌, subst, ap₂, inl, inr, zero-add, arith}
+use Rattle.std.proofs.Common.{◌≡◌, ℕ, ◌+◌, ◌*◌, ◌^◌, ◌<◌, ◌≤◌, false, cond, ◌↔◌, List, length, get_or, sym, ap, ◌∙◌, subst, ap₂, inl, inr, zero-add, arith}
 use mathlib.Core.Logic.Iff
 use native.Mathlib.Decide.{dec_lt}
 use lib.Bits.{bit_xor, xor_zero_l}

@@ -1,5 +1,5 @@
 -- What the steps of the solver do to the sums. C is the code of the shape, x the nodes, and t the number of lost packets.
-use Rattle.std.specs.Prelude.{◌≡◌, ℕ, zero, suc, ◌+◌, ◌<◌, ◌≤◌, ◌↔◌, List, ◌≢◌, bit_xor, slice_index}
+use Rattle.std.specs.Prelude.{ℕ, zero, suc, ◌+◌, ◌<◌, ◌≤◌, ◌↔◌, List, ◌≢◌, bit_xor, slice_index}
 use Rattle.algebra.specs.Code.{SamePacket, scaled}
 use Rattle.algebra.specs.Laws.{vander, form}
 use Rattle.algebra.specs.Loops.{Sys, found}

@@ -1,5 +1,5 @@
 -- Reading gives back what was written, and nothing else is read.
-use Rattle.std.proofs.Common.{◌≡◌, ℕ, ◌+◌, ◌*◌, ◌/◌, ◌%◌, ◌^◌, ◌<◌, Bool, true, false, cond, ◌&&◌, eqb, ltb, List, [], ◌∷◌, length, get_or, drop, sym, refl, ap, ◌∙◌, subst, arith}
+use Rattle.std.proofs.Common.{◌≡◌, ℕ, ◌+◌, ◌*◌, ◌^◌, ◌<◌, true, cond, ltb, List, [], ◌∷◌, length, get_or, ap, arith}
 use Rattle.refusal.specs.declared.Refusal.TheVariants.{BadFrame}
 use Rattle.refusal.specs.Numbers.{said}
 use Rattle.std.proofs.lemmas.Bool.{cond_both, lt-ltb}

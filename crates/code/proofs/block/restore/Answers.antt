@@ -1,5 +1,5 @@
 use Rattle.std.proofs.Math.Facts.{Fits-lt-pow}
-use Rattle.std.proofs.Common.{◌^◌, ◌≤◌, length, refl, ◌∙◌, subst, arith, pow_mono}
+use Rattle.std.proofs.Common.{◌^◌, ◌≤◌, refl, ◌∙◌, subst, arith, pow_mono}
 use Rattle.layout.specs.Sizes.{parity_of}
 use Rattle.code.specs.Sums.{Gained, ZeroSums, FirstAt}
 use Rattle.code.specs.Solving.{Untouched, Keeps, sums_of}

@@ -1,4 +1,4 @@
-use Rattle.std.proofs.Common.{◌^◌, ◌≤◌, refl, ◌∙◌, subst, arith, pow_mono}
+use Rattle.std.proofs.Common.{◌^◌, ◌≤◌, refl, subst, arith, pow_mono}
 use Rattle.layout.specs.Sizes.{parity_of}
 use Rattle.solver.specs.Sums.{ZeroSums, FirstAt}
 use Rattle.solver.specs.Solving.{Untouched, Keeps, sums_of}

@@ -1,10 +1,10 @@
-use Rattle.std.proofs.Common.{◌≡◌, ◌^◌, ◌<◌, true, ltb, [], Some, None, sym, ap, ◌∙◌, ap₂, mod-eq_of_lt, one-mul, arith}
+use Rattle.std.proofs.Common.{◌≡◌, true, ltb, sym, ap, ◌∙◌, mod-eq_of_lt, one-mul, arith}
 use lib.Bits.{bit_xor}
 use Rattle.std.proofs.lemmas.Bool.{cond-true}
 use Rattle.galois.specs.Field.{power}
 use Rattle.galois.proofs.Powers.{two_lt, power_lt, power_mul}
 use Rattle.algebra.specs.Code.{scaled}
-use Rattle.layout.specs.Sizes.{parity_of, packet_of, Packets}
+use Rattle.layout.specs.Sizes.{packet_of}
 use Rattle.layout.specs.Checks.{run_refusal}
 use Rattle.layout.specs.Blocks.{code_of, packet_in, block_at}
 use Rattle.layout.proofs.Passes.{pass_both, width_passes, run_passes}
