@@ -6,3 +6,4 @@ pub mod Copies
 pub mod Founds
 pub mod Rebuilds
 pub mod Passes
+pub mod Losing

@@ -3,3 +3,4 @@ pub mod Sums
 pub mod Solving
 pub mod Found
 pub mod Rebuilt
+pub mod Lost

@@ -10,7 +10,7 @@ loop-position-init g c = (count_none _, omega arith)
 
 pub returns-in_err-held : goal.returns-in_err-held
 returns-in_err-held g c =
-    let p = err_from_is_err_and c.from-residual-in_err-held.result c.from-residual-in_err-held.ensures.1 in
+    let p = err_from_is_err_and c.from_residual-in_err-held.result c.from_residual-in_err-held.ensures.1 in
     let s = c.in_ok-shape.shape in
     let G = g.S.SlotStore.grid c.args.self.now.store in
     record {

@@ -22,7 +22,7 @@ returns-in_err-losses g c =
     let i = c.args.block in
     let row : i < s.blocks = omega (arith, c.blocks-2.ensures.value) in
     let long : length c.args.work.now ≡ (parity_of s + 1) * packet_of s = rw c.parity.ensures at (run_passes s (c.parity.result + 1) c.args.work.now 0 (sym c.in_ok-check_run.ensures)) in
-    let p = err_from_is_err_and c.from-residual-in_err-losses.result c.from-residual-in_err-losses.ensures.1 in
+    let p = err_from_is_err_and c.from_residual-in_err-losses.result c.from_residual-in_err-losses.ensures.1 in
     let few = λ (F : Fitted f.bits s m.grid). c.in_err-losses.ensures.listed (fitted_own f.bits s m.grid F) in
     rw (p.1, p.2) (record {
       after = λ S. inl (record { refusal = repair_checks s m i c.args.work.now is row long ∙ few (S s is); same = refl; same_work = refl });

@@ -12,7 +12,7 @@ returns-in_err-format g c =
     let v = c.args.self.now in
     let F = g.F.Arithmetic in
     let T = g.S.SlotStore in
-    let p = err_from_is_err_and c.from-residual-in_err-format.result c.from-residual-in_err-format.ensures.1 in
+    let p = err_from_is_err_and c.from_residual-in_err-format.result c.from_residual-in_err-format.ensures.1 in
     let h = c.in_err-format.ensures in
     let made = c.in_ok-shape.ensures in
     rw (p.1, p.2) (record {

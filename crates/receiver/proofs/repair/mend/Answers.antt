@@ -3,7 +3,7 @@ use Rattle.std.proofs.lemmas.Result.{err_from_is_err_and}
 use Rattle.layout.specs.Sizes.{parity_of, Packets, lost}
 use Rattle.solver.specs.Sums.{SumsTo}
 use Rattle.solver.proofs.Passes.{rebuild_passes}
-use Rattle.code.proofs.Repairs.{found-lost}
+use Rattle.solver.proofs.Losing.{found_lost}
 use Rattle.receiver.specs.Meaning.{Fitted}
 use Rattle.receiver.specs.Blocks.{block_of, Missing}
 use Rattle.receiver.proofs.Completing.{fitted_own, missing_gone, completes, still_fitted}
@@ -17,10 +17,10 @@ returns-in_err-rebuild g c =
     let i = c.args.block in
     let G = g.S.SlotStore.grid c.args.store.now in
     let S = c.absorb_held.new.sums in
-    let p = err_from_is_err_and c.from-residual-in_err-rebuild.result c.from-residual-in_err-rebuild.ensures.1 in
+    let p = err_from_is_err_and c.from_residual-in_err-rebuild.result c.from_residual-in_err-rebuild.ensures.1 in
     rw (p.1, p.2) (record {
       mended = λ F M. (
-        found-lost s f.prod l c.requires.below c.requires.count (block_of s G i) (block_of s G i) (λ q _ _ j k _ _. refl) (missing_gone f.bits s f.prod l G i F c.requires.block M) S (c.in_ok-absorb_held.ensures F)
+        found_lost s f.prod l c.requires.below c.requires.count (block_of s G i) (block_of s G i) (λ q _ _ j k _ _. refl) (missing_gone f.bits s f.prod l G i F c.requires.block M) S (c.in_ok-absorb_held.ensures F)
             f.bits c.rebuild.new.sums c.absorb_held.new.scratch c.rebuild.new.scratch (Err _)
             (rebuild_passes f.bits s F.width S (c.absorb_held.auto.sums ∙ c.requires.sums) l c.absorb_held.new.scratch c.requires.below c.requires.count (c.absorb_held.auto.scratch ∙ c.requires.scratch))
             c.in_err-rebuild.ensures,
@@ -43,7 +43,7 @@ returns g c =
     let size : Packets s (parity_of s) V = c.rebuild.auto.sums ∙ c.absorb_held.auto.sums ∙ c.requires.sums in
     record {
       mended = λ F M.
-          let L = found-lost s f.prod l c.requires.below c.requires.count (block_of s G i) (block_of s G i) (λ q _ _ j k _ _. refl) (missing_gone f.bits s f.prod l G i F c.requires.block M) S (c.in_ok-absorb_held.ensures F)
+          let L = found_lost s f.prod l c.requires.below c.requires.count (block_of s G i) (block_of s G i) (λ q _ _ j k _ _. refl) (missing_gone f.bits s f.prod l G i F c.requires.block M) S (c.in_ok-absorb_held.ensures F)
           f.bits V c.absorb_held.new.scratch c.rebuild.new.scratch (Ok tt)
           (rebuild_passes f.bits s F.width S (c.absorb_held.auto.sums ∙ c.requires.sums) l c.absorb_held.new.scratch c.requires.below c.requires.count (c.absorb_held.auto.scratch ∙ c.requires.scratch))
           c.in_ok-rebuild.ensures in
