@@ -12,6 +12,7 @@ use field::tabled::Tabled;
 use receiver::{Receiver, Taken};
 use refusal::Refusal;
 use std::io::{BufRead, BufReader, Lines, Stdin};
+use std::process::ExitCode;
 use store::SlotStore;
 use store::memory::MemoryStore;
 use store::nor::NorStore;
@@ -232,12 +233,12 @@ fn run(rt: &HostRuntime) -> anyhow::Result<()> {
     }
 }
 
-fn main(rt: HostRuntime) -> anyhow::Result<()> {
+fn main(rt: HostRuntime) -> anyhow::Result<ExitCode> {
     match run(&rt) {
-        Ok(()) => Ok(()),
+        Ok(()) => Ok(ExitCode::SUCCESS),
         Err(error) => {
             eprintln!(rt; "board: {error}")?;
-            Err(error)
+            Ok(ExitCode::FAILURE)
         }
     }
 }

@@ -13,6 +13,7 @@ use layout::losses::LossList;
 use layout::shape::Shape;
 use refusal::Refusal;
 use std::alloc::{AllocError, Global};
+use std::process::ExitCode;
 use std::{env, fs};
 use store::SlotStore;
 use store::memory::MemoryStore;
@@ -295,12 +296,12 @@ fn run(rt: &HostRuntime) -> anyhow::Result<()> {
     }
 }
 
-fn main(rt: HostRuntime) -> anyhow::Result<()> {
+fn main(rt: HostRuntime) -> anyhow::Result<ExitCode> {
     match run(&rt) {
-        Ok(()) => Ok(()),
+        Ok(()) => Ok(ExitCode::SUCCESS),
         Err(error) => {
             eprintln!(rt; "joint: {error}")?;
-            Err(error)
+            Ok(ExitCode::FAILURE)
         }
     }
 }

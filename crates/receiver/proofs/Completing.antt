@@ -1,10 +1,10 @@
 -- A block of a grid with its missing packets put: it holds the one codeword that agrees with what it held.
-use Rattle.std.proofs.Common.{◌≡◌, ℕ, ◌+◌, ◌-◌, ◌*◌, ◌^◌, ◌<◌, ◌≤◌, Bool, true, false, not, List, [], length, get_or, is_some, Some, None, Option, sym, refl, ap, ◌∙◌, subst, inl, inr, arith, pow_pos}
+use Rattle.std.proofs.Common.{◌≡◌, ℕ, ◌+◌, ◌*◌, ◌^◌, ◌<◌, Bool, true, false, not, List, [], length, get_or, is_some, Some, None, Option, sym, refl, ap, ◌∙◌, subst, inl, inr, arith, pow_pos}
 use native.Mathlib.Decide.{ℕ_discrete, dec_lt}
 use Rattle.std.specs.List.{between}
 use Rattle.std.proofs.lemmas.List.Edits.{get_or-between}
 use Rattle.std.proofs.lemmas.List.{get_or_past}
-use Rattle.algebra.specs.Code.{Block, Codeword, SamePacket, ZeroPacket, among}
+use Rattle.algebra.specs.Code.{Block, SamePacket, ZeroPacket, among}
 use Rattle.algebra.proofs.Marks.{two, true_false, among_find}
 use Rattle.layout.specs.declared.shape.Shape.{Shape}
 use Rattle.layout.specs.declared.losses.LossList.{LossList}
@@ -17,7 +17,6 @@ use Rattle.store.specs.Grids.{Grid, packet_or}
 use Rattle.solver.specs.Lost.{AgreeOff}
 use Rattle.solver.specs.Lost.{LostPackets}
 use Rattle.receiver.specs.Meaning.{IsPacket, Fitted}
-use Rattle.receiver.specs.Calls.{held_in}
 use Rattle.receiver.specs.Blocks.{block_of, Missing, Agrees}
 use Rattle.receiver.specs.Repairs.{Completes}
 use Rattle.receiver.specs.Steps.{Put}

@@ -1,10 +1,10 @@
 -- How many codewords agree with what a block holds, and what a repair answers by it.
-use Rattle.std.proofs.Common.{◌≡◌, ℕ, ◌+◌, ◌-◌, ◌*◌, ◌^◌, ◌<◌, ◌≤◌, true, cond, not, ltb, leb, List, [], ◌∷◌, length, get_or, is_some, Some, None, Ok, Err, Option, Result, sym, refl, ap, ◌∙◌, subst, inl, inr, arith}
+use Rattle.std.proofs.Common.{◌≡◌, ℕ, ◌+◌, ◌*◌, ◌^◌, ◌<◌, true, not, ltb, leb, List, [], ◌∷◌, length, is_some, Some, None, Ok, Err, Option, Result, sym, refl, ap, ◌∙◌, subst, inl, inr, arith}
 use Rattle.std.proofs.lemmas.Bool.{cases_Bool, cond-true, cond-false, lt-ltb}
 use Rattle.refusal.specs.declared.Refusal.{Refusal}
 use Rattle.refusal.specs.Numbers.{said, refused_with, or_else}
 use Rattle.galois.specs.Field.{FieldLaws}
-use Rattle.algebra.specs.Code.{Block, AgreeAt, Words32, SameBlock, count, among}
+use Rattle.algebra.specs.Code.{Block, AgreeAt, Words32, count, among}
 use Rattle.algebra.proofs.Marks.{count_ext, count_not, count_among}
 use Rattle.layout.specs.declared.shape.Shape.{Shape}
 use Rattle.layout.specs.declared.losses.LossList.{LossList}
@@ -19,7 +19,7 @@ use Rattle.receiver.specs.declared.Whole.{Whole}
 use Rattle.receiver.specs.Meaning.{Meaning, Fitted}
 use Rattle.receiver.specs.Calls.{of_shape, block_refusal, held_in}
 use Rattle.receiver.specs.Blocks.{block_of, Missing, Agrees, One, Several, NoCodeword, Contradictory}
-use Rattle.receiver.specs.Repairs.{few_refusal, repair_refusal, Completes, Restored, Unrepaired, RefusedAs8, AfterRepair, Judged}
+use Rattle.receiver.specs.Repairs.{few_refusal, repair_refusal, Completes, AfterRepair, Judged}
 use Rattle.receiver.specs.Steps.{Mended}
 use Rattle.receiver.proofs.Completing.{some_from, agree_off}
 

@@ -1,5 +1,5 @@
 -- The positions that a block does not hold, collected one after another.
-use Rattle.std.proofs.Common.{◌≡◌, ℕ, zero, suc, ◌+◌, ◌-◌, ◌<◌, ◌≤◌, Bool, true, false, cond, not, leb, ◌⊎◌, List, [], length, get_or, take, set, Some, None, Ok, Err, Result, sym, refl, ap, ◌∙◌, inl, inr, add-zero, add-suc, add-one, arith, get_or-set_other, get_or-set_same}
+use Rattle.std.proofs.Common.{◌≡◌, ℕ, zero, suc, ◌+◌, ◌-◌, ◌<◌, ◌≤◌, Bool, true, false, not, leb, List, [], length, get_or, take, set, Some, None, Ok, Err, Result, sym, refl, ap, ◌∙◌, inl, inr, add-zero, add-suc, add-one, arith, get_or-set_other, get_or-set_same}
 use native.Mathlib.Decide.{ℕ_discrete}
 use Rattle.std.proofs.lemmas.List.{get_or-take}
 use Rattle.std.proofs.lemmas.Bool.{cases_Bool, cond-true, cond-false}
@@ -9,7 +9,7 @@ use Rattle.algebra.proofs.Marks.{Rising, Below, among_at, among_skip, among_off,
 use Rattle.layout.specs.declared.shape.Shape.{Shape}
 use Rattle.layout.specs.declared.losses.LossList.{LossList}
 use Rattle.layout.specs.Sizes.{parity_of, lost}
-use Rattle.layout.specs.Made.{LossesMade, lost_at}
+use Rattle.layout.specs.Made.{LossesMade}
 use Rattle.store.specs.Grids.{Grid}
 use Rattle.receiver.specs.Calls.{held_in}
 use Rattle.receiver.specs.Repairs.{few_refusal}

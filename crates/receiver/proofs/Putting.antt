@@ -1,5 +1,5 @@
 -- Packets put into the slots of a block at the lost positions, one after another.
-use Rattle.std.proofs.Common.{◌≡◌, ℕ, suc, ◌+◌, ◌*◌, ◌<◌, ◌≤◌, Bool, true, false, not, eqb, ltb, List, length, is_some, Some, None, sym, refl, ap, ◌∙◌, subst, add-one, arith}
+use Rattle.std.proofs.Common.{◌≡◌, ℕ, suc, ◌+◌, ◌*◌, ◌<◌, Bool, true, false, not, eqb, ltb, List, length, is_some, Some, None, sym, refl, ap, ◌∙◌, add-one, arith}
 use native.Mathlib.Decide.{ℕ_discrete}
 use Rattle.std.specs.List.{between}
 use Rattle.std.proofs.lemmas.Bool.{cond-true, cond-false, and_from, lt-ltb, eq-eqb}
@@ -11,7 +11,6 @@ use Rattle.layout.specs.Sizes.{packet_of, lost}
 use Rattle.store.specs.Grids.{Grid, Filled, inside, put_refusal}
 use Rattle.receiver.specs.Meaning.{Fitted}
 use Rattle.receiver.specs.Blocks.{Missing}
-use Rattle.receiver.specs.Calls.{held_in}
 use Rattle.receiver.specs.Steps.{Put}
 
 pub not_true : (b : Bool) → true ≡ not b → b ≡ false

@@ -1,10 +1,10 @@
 -- What rebuild makes of the sums of a block: the lost packets of the codewords that agree with it, or none.
-use Rattle.std.proofs.Common.{◌≡◌, ℕ, ◌+◌, ◌*◌, ◌<◌, ◌≤◌, true, false, cond, List, None, Ok, Err, Result, sym, refl, ap, ◌∙◌, subst, inl, inr, arith}
+use Rattle.std.proofs.Common.{◌≡◌, ℕ, ◌+◌, ◌*◌, ◌<◌, ◌≤◌, false, List, None, Ok, Err, Result, sym, ap, ◌∙◌, subst, inl, inr, arith}
 use lib.Bits.{bit_xor}
 use Rattle.refusal.specs.declared.Refusal.{Refusal}
 use Rattle.refusal.specs.Numbers.{said}
 use Rattle.algebra.specs.Code.{Code, Block, SamePacket, ZeroPacket, SameBlock, syndrome, among}
-use Rattle.algebra.proofs.Marks.{two, among_at, among_find}
+use Rattle.algebra.proofs.Marks.{two, among_find}
 use Rattle.algebra.proofs.Words.{xors_ext, scaled_same}
 use Rattle.algebra.proofs.Lost.{syndrome_split, put, put_at, put_off}
 use Rattle.layout.specs.declared.shape.Shape.{Shape}

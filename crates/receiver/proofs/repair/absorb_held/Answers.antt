@@ -1,4 +1,4 @@
-use Rattle.std.proofs.Common.{◌≡◌, ◌+◌, ◌<◌, true, [], is_some, sym, ap, ◌∙◌, subst, arith}
+use Rattle.std.proofs.Common.{◌≡◌, ◌<◌, true, [], is_some, ap, ◌∙◌, subst, arith}
 use Rattle.layout.specs.Blocks.{packet_in}
 use Rattle.layout.proofs.Passes.{passed}
 use Rattle.solver.specs.Sums.{SumsTo}

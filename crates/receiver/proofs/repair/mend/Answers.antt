@@ -1,11 +1,9 @@
-use Rattle.std.proofs.Common.{◌≡◌, ℕ, Ok, Err, sym, refl, ap, ◌∙◌, subst}
+use Rattle.std.proofs.Common.{Ok, Err, refl, ◌∙◌}
 use Rattle.std.proofs.lemmas.Result.{err_from_is_err_and}
-use Rattle.layout.specs.Sizes.{parity_of, Packets, lost}
-use Rattle.solver.specs.Sums.{SumsTo}
+use Rattle.layout.specs.Sizes.{parity_of, Packets}
 use Rattle.solver.proofs.Passes.{rebuild_passes}
 use Rattle.solver.proofs.Losing.{found_lost}
-use Rattle.receiver.specs.Meaning.{Fitted}
-use Rattle.receiver.specs.Blocks.{block_of, Missing}
+use Rattle.receiver.specs.Blocks.{block_of}
 use Rattle.receiver.proofs.Completing.{fitted_own, missing_gone, completes, still_fitted}
 use Rattle.receiver.proofs.repair.mend.Goals as goal
 

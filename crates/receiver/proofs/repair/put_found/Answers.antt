@@ -1,12 +1,11 @@
 use Rattle.std.proofs.Math.Facts.{Fits-lt-pow}
-use Rattle.std.proofs.Common.{◌≡◌, ◌+◌, ◌*◌, ◌<◌, ◌≤◌, length, sym, refl, ap, ◌∙◌, subst, arith, rules}
+use Rattle.std.proofs.Common.{◌≡◌, ◌+◌, ◌*◌, ◌<◌, refl, ap, ◌∙◌, subst, arith, rules}
 use Rattle.std.specs.List.{between}
-use Rattle.layout.specs.Sizes.{parity_of, packet_of, lost}
+use Rattle.layout.specs.Sizes.{parity_of}
 use Rattle.layout.proofs.Places.{part_ends}
 use Rattle.layout.proofs.Parts.{part_length}
 use Rattle.layout.proofs.Passes.{passed}
 use Rattle.store.specs.Grids.{Filled, put_refusal}
-use Rattle.receiver.specs.Steps.{Put}
 use Rattle.receiver.proofs.Putting.{put_none, put_more, put_passes}
 use Rattle.receiver.proofs.repair.put_found.Goals as goal
 
