@@ -1,5 +1,5 @@
 -- Packets added to the sums of a block, and the first word of the sums that is not zero.
-use Rattle.std.specs.Prelude.{◌≡◌, ℕ, ◌+◌, ◌*◌, ◌<◌, ◌≤◌, cond, List, Some, None, Option, bit_xor, slice_index, slice_index_or}
+use Rattle.std.specs.Prelude.{◌≡◌, ℕ, ◌+◌, ◌*◌, ◌<◌, ◌≤◌, cond, List, Some, None, Option, bit_xor, slice_index, ◌≢◌}
 use Rattle.galois.specs.Field.{power}
 use Rattle.algebra.specs.Code.{Packet, SamePacket, scaled, xors, among}
 use Rattle.layout.specs.declared.shape.Shape.{Shape}
@@ -35,7 +35,7 @@ pub record FirstAt (s : Shape) (run : List ℕ) (first μ j : ℕ) : Type 0 wher
   pub word : j < packet_of s
   pub before : ZeroSums s run first μ
   pub left : (k : ℕ) → k < j → slice_index run (μ * packet_of s + k) ≡ 0
-  pub here : slice_index_or run (μ * packet_of s + j) 0 ≡ 0 → ⊥
+  pub here : slice_index run (μ * packet_of s + j) ≢ 0
 
 abbrev pub FirstNonzero : Shape → List ℕ → ℕ → Option (ℕ × ℕ) → Type 0
 FirstNonzero s run first None = ZeroSums s run first (parity_of s)

@@ -1,5 +1,5 @@
 -- The words of a frame, what words say as a frame, and that the two are inverse to each other.
-use Rattle.std.specs.Prelude.{◌≡◌, ℕ, ◌+◌, ◌*◌, ◌/◌, ◌%◌, ◌^◌, Bool, true, false, cond, ◌&&◌, List, [], ◌∷◌, length, drop, Some, None, Ok, Err, Option, Result, ◌==◌, ◌≢◌, nat_lt, slice_index, slice_index_or}
+use Rattle.std.specs.Prelude.{◌≡◌, ℕ, ◌+◌, ◌*◌, ◌/◌, ◌%◌, ◌^◌, Bool, true, false, cond, ◌&&◌, List, [], ◌∷◌, length, drop, Some, None, Ok, Err, Option, Result, ◌==◌, ◌≢◌, nat_lt, slice_index}
 use Rattle.refusal.specs.declared.Refusal.{Refusal}
 use Rattle.refusal.specs.declared.Refusal.TheVariants.{BadFrame, WrongRun}
 use Rattle.refusal.specs.Numbers.{said}
@@ -63,8 +63,8 @@ is_packet ws = kind_of (slice_index ws 0) == 3 && (nat_lt 0 (length ws) && bits_
 
 abbrev pub shape_of : List ℕ → Sight
 shape_of ws =
-    let head = slice_index_or ws 0 0 in
-    let sizes = slice_index_or ws 1 0 in
+    let head = slice_index ws 0 in
+    let sizes = slice_index ws 1 in
     shape (bits_of head 24 4) (bits_of head 12 12) (bits_of head 0 12) (bits_of sizes 16 12) (bits_of sizes 0 8)
 
 abbrev pub packet_of : List ℕ → Sight
