@@ -33,6 +33,10 @@ not_below p (suc t) s end h l = elim (ℕ_discrete s t) [
 pub all_below_lem : (p : ℕ → ℕ) (t end : ℕ) → all_below p t end ≡ true → (s : ℕ) → s < t → p s < end
 all_below_lem p t end e s h = elim (dec_lt (p s) end) [ yes l ↦ l | no l ↦ true_false (all_below p t end) e (not_below p t s end h (omega arith)) ]
 
+pub below_all : (p : ℕ → ℕ) (t end : ℕ) → ((k : ℕ) → k < t → p k < end) → all_below p t end ≡ true
+below_all p zero end h = below_none p end
+below_all p (suc t) end h = ap (λ n. all_below p n end) (sym (add-one t)) ∙ below_next p t end (h t (omega arith)) (below_all p t end (λ k m. h k (omega arith)))
+
 -- no check of two refuses: neither does
 pub both_pass : (a b : Option (ℕ × List ℕ)) → or_else a b ≡ None → (a ≡ None) × (b ≡ None)
 both_pass None b e = (refl, e)
@@ -76,10 +80,17 @@ losses_ok s l below few =
     let b : leb l.len (parity_of s) ≡ true = grind arith in
     ap (λ t. cond t (cond (leb l.len (parity_of s)) None (Some (7, []))) (Some (6, []))) (below_all (lost l) l.len s.positions below)
     ∙ ap (λ t. cond t None (Some (7, []))) b
-  where
-    below_all : (p : ℕ → ℕ) (t end : ℕ) → ((k : ℕ) → k < t → p k < end) → all_below p t end ≡ true
-    below_all p zero end h = below_none p end
-    below_all p (suc t) end h = ap (λ n. all_below p n end) (sym (add-one t)) ∙ below_next p t end (h t (omega arith)) (below_all p t end (λ k m. h k (omega arith)))
+
+-- and refuse where they should
+
+pub losses_outside : (s : Shape) (l : LossList) (k : ℕ) → k < l.len → s.positions ≤ lost l k → loss_refusal s l ≡ Some (6, [])
+losses_outside s l k lt past = ap (λ t. cond t (cond (leb l.len (parity_of s)) None (Some (7, []))) (Some (6, []))) (not_below (lost l) l.len k s.positions lt past)
+
+pub losses_many : (s : Shape) (l : LossList) → LostBelow l s.positions → parity_of s < l.len → loss_refusal s l ≡ Some (7, [])
+losses_many s l below many =
+    let b : leb l.len (parity_of s) ≡ false = grind arith in
+    ap (λ t. cond t (cond (leb l.len (parity_of s)) None (Some (7, []))) (Some (6, []))) (below_all (lost l) l.len s.positions below)
+    ∙ ap (λ t. cond t None (Some (7, []))) b
 
 -- a check that passes did not refuse
 pub passed : {A : Type 0} (a : Option (ℕ × List ℕ)) (e : ℕ × List ℕ) → a ≡ None → Some e ≡ a → A

@@ -2,31 +2,30 @@
 use Rattle.std.specs.Prelude.{◌≡◌, ℕ, ◌-◌, ◌^◌, ◌<◌, ◌≤◌, cond, ◌&&◌, ◌⊎◌, List, [], length, take, Some, None, Ok, Err, Option, Result, ◌==◌, nat_le, nat_lt}
 use Rattle.refusal.specs.declared.Refusal.{Refusal}
 use Rattle.refusal.specs.Numbers.{said}
+use Rattle.layout.specs.declared.shape.Dimensions.{Dimensions}
 use Rattle.layout.specs.declared.shape.Shape.{Shape}
 use Rattle.layout.specs.declared.losses.LossList.{LossList}
 use Rattle.layout.specs.Rules.{InOrder}
 
--- the refusal that five numbers meet, for an arithmetic of a width
-abbrev pub shape_refusal : ℕ → ℕ → ℕ → ℕ → ℕ → ℕ → Option (ℕ × List ℕ)
-shape_refusal width m n k b w =
-    cond (m == width)
-    (cond (nat_le 1 k && (nat_lt k n && nat_le (n - k) 32))
-    (cond (nat_le n (2 ^ m - 1))
-    (cond (nat_le 1 b && (nat_le b 64 && (nat_le 1 w && nat_le w 16))) None (Some (4, [])))
+-- the dimensions of a shape
+abbrev pub dimensions_of : Shape → Dimensions
+dimensions_of s = record { rows = s.rows; positions = s.positions; sources = s.sources; blocks = s.blocks; words = s.words }
+
+-- the refusal that dimensions meet, for an arithmetic of a width
+abbrev pub shape_refusal : ℕ → Dimensions → Option (ℕ × List ℕ)
+shape_refusal width d =
+    cond (d.rows == width)
+    (cond (nat_le 1 d.sources && (nat_lt d.sources d.positions && nat_le (d.positions - d.sources) 32))
+    (cond (nat_le d.positions (2 ^ d.rows - 1))
+    (cond (nat_le 1 d.blocks && (nat_le d.blocks 64 && (nat_le 1 d.words && nat_le d.words 16))) None (Some (4, [])))
     (Some (3, [])))
     (Some (2, [])))
     (Some (1, []))
 
-pub record Numbers (s : Shape) (m n k b w : ℕ) : Type 0 where
-  pub rows : s.rows ≡ m
-  pub positions : s.positions ≡ n
-  pub sources : s.sources ≡ k
-  pub blocks : s.blocks ≡ b
-  pub words : s.words ≡ w
-
-abbrev pub ShapeMade : ℕ → ℕ → ℕ → ℕ → ℕ → Result Shape Refusal → Type 0
-ShapeMade m n k b w (Ok s) = Numbers s m n k b w
-ShapeMade m n k b w (Err e) = Unit {0}
+-- a shape that is made has just these dimensions
+abbrev pub ShapeMade : Dimensions → Result Shape Refusal → Type 0
+ShapeMade d (Ok s) = dimensions_of s ≡ d
+ShapeMade d (Err e) = Unit {0}
 
 -- the lost positions
 abbrev pub lost_at : LossList → List ℕ

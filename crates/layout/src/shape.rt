@@ -5,7 +5,17 @@ pub mod checks;
 pub mod make;
 pub mod sizes;
 
-// Rows in a packet, positions in a block, source positions among them, blocks, and words in a row.
+// Rows in a packet, positions in a block, source positions among them, blocks, and words in a row: any numbers.
+#[derive(Clone, Copy, PartialEq, Eq, Debug)]
+pub struct Dimensions {
+    pub rows: usize,
+    pub positions: usize,
+    pub sources: usize,
+    pub blocks: usize,
+    pub words: usize,
+}
+
+// Dimensions that a transmission can have.
 #[derive(Clone, Copy)]
 pub struct Shape {
     rows: usize,

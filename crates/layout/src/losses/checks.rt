@@ -12,10 +12,9 @@ impl LossList {
     pub fn check(&self, shape: &Shape) -> Result<(), Refusal>
         ensures { refused_with result ≡ loss_refusal shape.now self.now }
     {
-        for at in self.positions() {
-            if *at >= shape.positions() {
-                return Err(Refusal::BadLosses);
-            }
+        let end = shape.positions();
+        if self.positions().iter().any(|at| *at >= end) {
+            return Err(Refusal::BadLosses);
         }
         if self.positions().len() > shape.parity() {
             return Err(Refusal::TooFew);

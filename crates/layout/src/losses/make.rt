@@ -7,20 +7,13 @@ ghost use Rattle.layout.specs.Made.{LossesMade, lost_at};
 use super::LossList;
 use crate::shape::Shape;
 use refusal::Refusal;
+use std::array;
 
 // Whether the positions ascend strictly and lie below `end`.
 fn ordered(positions: &[usize], end: usize) -> bool
     ensures { Ordered positions.now end result }
 {
-    for (i, p) in positions.iter().enumerate() {
-        if *p >= end {
-            return false;
-        }
-        if i > 0 && positions[i - 1] >= *p {
-            return false;
-        }
-    }
-    true
+    positions.iter().all(|p| *p < end) && positions.is_sorted_by(|p, q| p < q)
 }
 
 impl LossList {
@@ -35,9 +28,7 @@ impl LossList {
             return Err(Refusal::TooFew);
         }
         let mut at = [0; 32];
-        for (i, p) in positions.iter().enumerate() {
-            at[i] = *p;
-        }
+        at[..positions.len()].copy_from_slice(positions);
         Ok(LossList {
             at,
             len: positions.len(),
@@ -59,12 +50,8 @@ impl LossList {
         ensures len { result.len ≡ shape.now.positions - shape.now.sources }
         ensures at { (s : ℕ) → s < result.len → lost result s ≡ s }
     {
-        let mut at = [0; 32];
-        for s in 0..32 {
-            at[s] = s;
-        }
         LossList {
-            at,
+            at: array::from_fn(|s| s),
             len: shape.parity(),
         }
     }
@@ -73,12 +60,7 @@ impl LossList {
     pub fn contains(&self, position: usize) -> bool
         ensures { result ≡ among (lost self.now) self.now.len position }
     {
-        for at in self.positions() {
-            if *at == position {
-                return true;
-            }
-        }
-        false
+        self.positions().contains(&position)
     }
 
     pub fn positions(&self) -> &[usize]

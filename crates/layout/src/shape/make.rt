@@ -2,22 +2,23 @@ ghost use Rattle.std.specs.Prelude.{◌≡◌, ◌-◌, ◌<◌, ◌≤◌};
 ghost use Rattle.refusal.specs.Numbers.{refused_with};
 ghost use Rattle.layout.specs.Made.{shape_refusal, ShapeMade};
 
-use super::Shape;
+use super::{Dimensions, Shape};
 use field::Arithmetic;
 use refusal::Refusal;
 
 impl Shape {
-    // The shape of these numbers, for an arithmetic.
-    pub fn new<F: Arithmetic>(
-        rows: usize,
-        positions: usize,
-        sources: usize,
-        blocks: usize,
-        words: usize,
-    ) -> Result<Shape, Refusal>
-        ensures answer { refused_with result ≡ shape_refusal F.Arithmetic.bits rows positions sources blocks words }
-        ensures made { ShapeMade rows positions sources blocks words result }
+    // The shape of these dimensions, for an arithmetic.
+    pub fn new<F: Arithmetic>(dimensions: Dimensions) -> Result<Shape, Refusal>
+        ensures answer { refused_with result ≡ shape_refusal F.Arithmetic.bits dimensions }
+        ensures made { ShapeMade dimensions result }
     {
+        let Dimensions {
+            rows,
+            positions,
+            sources,
+            blocks,
+            words,
+        } = dimensions;
         if rows != F::width() as usize {
             return Err(Refusal::OtherWidth);
         }

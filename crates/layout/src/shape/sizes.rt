@@ -1,9 +1,22 @@
 ghost use Rattle.std.specs.Prelude.{◌≡◌, ◌≤◌};
+ghost use Rattle.layout.specs.Made.{dimensions_of};
 ghost use Rattle.layout.specs.Sizes.{parity_of, packet_of};
 
-use super::Shape;
+use super::{Dimensions, Shape};
 
 impl Shape {
+    pub fn dimensions(&self) -> Dimensions
+        ensures { result ≡ dimensions_of self.now }
+    {
+        Dimensions {
+            rows: self.rows,
+            positions: self.positions,
+            sources: self.sources,
+            blocks: self.blocks,
+            words: self.words,
+        }
+    }
+
     // How many parity positions a block has.
     pub fn parity(&self) -> usize
         ensures { result ≡ parity_of self.now }
