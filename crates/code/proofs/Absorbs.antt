@@ -1,16 +1,16 @@
 -- What adding packets to the sums keeps from turn to turn.
-use Rattle.std.proofs.Common.{◌≡◌, ℕ, ◌+◌, ◌*◌, ◌<◌, ◌≤◌, true, false, cond, List, length, sym, refl, ap, ◌∙◌, add-one, arith}
+use Rattle.std.proofs.Common.{◌≡◌, ℕ, ◌+◌, ◌*◌, ◌<◌, ◌≤◌, List, length, sym, refl, ap, ◌∙◌, ap₂, add-one, arith}
 use native.Mathlib.Decide.{ℕ_discrete}
 use borrow.Rule.Slice.PartMut.{put_mid}
-use lib.Bits.{bit_xor, xor_assoc, xor_zero_r}
+use lib.Bits.{bit_xor, xor_zero_r}
 use Rattle.galois.specs.Field.{power}
-use Rattle.algebra.specs.Code.{Packet, SamePacket, scaled, xors, among}
+use Rattle.algebra.specs.Code.{Packet, Block, SamePacket, ZeroPacket, scaled, xors}
+use Rattle.algebra.proofs.Words.{xors_none, scaled_same, scaled_zero}
 use Rattle.layout.specs.declared.shape.Shape.{Shape}
-use Rattle.layout.specs.declared.losses.LossList.{LossList}
-use Rattle.layout.specs.Sizes.{parity_of, packet_of, lost}
-use Rattle.code.specs.Blocks.{code_of, packet_in, block_at}
-use Rattle.code.specs.Sums.{Absorbed, Gained}
-use Rattle.code.proofs.Entries.{entry_written, entry_kept}
+use Rattle.layout.specs.Sizes.{parity_of, packet_of}
+use Rattle.layout.specs.Blocks.{code_of, packet_in, block_at, ZeroRun}
+use Rattle.code.specs.Sums.{Absorbed, Gained, SumsTo}
+use Rattle.layout.proofs.Entries.{entry_written, entry_kept}
 
 module _ (s : Shape) (prod : ℕ → ℕ → ℕ) (first x : ℕ) (p : Packet) (e : List ℕ) where
   pub absorbed_none : Absorbed s prod first first x p e e
@@ -34,32 +34,28 @@ module _ (s : Shape) (prod : ℕ → ℕ → ℕ) (first x : ℕ) (p : Packet) (
     above = λ μ h l i c a b. entry_kept s n v t ev k y size fits long μ (λ q. omega arith) i c a b ∙ d.above μ (omega arith) l i c a b;
   }
 
-module _ (s : Shape) (prod : ℕ → ℕ → ℕ) (l : LossList) (start : ℕ) (run e : List ℕ) where
-  pub gained_none : Gained s prod l start 0 run e e
+module _ (s : Shape) (prod : ℕ → ℕ → ℕ) (b : Block) where
+  -- the sums of no packets are zero
+  pub sums_none : (run : List ℕ) → ZeroRun run → SumsTo s prod b 0 run
   unfolding xors
-  gained_none μ h i c a b = sym (xor_zero_r _)
+  sums_none run e μ h i c p q = e _
 
-  share : ℕ → ℕ → ℕ → ℕ → ℕ
-  share μ i c j = cond (among (lost l) l.len (start + j)) 0 (scaled (code_of s prod) (power prod 2 (μ * (start + j))) (block_at s run j) i c)
+  -- packet n is absorbed
+  pub sums_held : (n : ℕ) (p : Packet) (t t' : List ℕ) → SamePacket (code_of s prod) p (b n) → Gained s prod n p t t' → SumsTo s prod b n t → SumsTo s prod b (n + 1) t'
+  unfolding xors
+  sums_held n p t t' is d e μ h i c a k =
+      let C = code_of s prod in
+      let term : ℕ → ℕ = λ q. scaled C (power prod 2 (μ * q)) (b q) i c in
+      d μ h i c a k ∙ ap₂ bit_xor (e μ h i c a k) (scaled_same C (power prod 2 (μ * n)) p (b n) is i c k) ∙ ap (λ m. xors m term) (sym (add-one n))
 
-  -- packet n is added
-  pub gained_held : (n : ℕ) (t t' : List ℕ) → among (lost l) l.len (start + n) ≡ false → Gained s prod l start n run e t
-      → ((μ : ℕ) → μ < parity_of s → SamePacket (code_of s prod) (block_at s t' μ) (λ i c. bit_xor (block_at s t μ i c) (scaled (code_of s prod) (power prod 2 (μ * (start + n))) (block_at s run n) i c)))
-      → Gained s prod l start (n + 1) run e t'
-  unfolding xors share
-  gained_held n t t' held d here μ h i c a b =
-      let term = scaled (code_of s prod) (power prod 2 (μ * (start + n))) (block_at s run n) i c in
-      here μ h i c a b ∙ ap (λ u. bit_xor u term) (d μ h i c a b) ∙ xor_assoc (block_at s e μ i c) (xors n (share μ i c)) term
-      ∙ ap (bit_xor (block_at s e μ i c))
-      (ap (λ z. bit_xor (xors n (share μ i c)) (cond z 0 (scaled (code_of s prod) (power prod 2 (μ * (start + n))) (block_at s run n) i c))) (sym held)
-      ∙ ap (λ k. xors k (share μ i c)) (sym (add-one n)))
+  -- packet n counts as zero
+  pub sums_lost : (n : ℕ) (t : List ℕ) → ZeroPacket (code_of s prod) (b n) → SumsTo s prod b n t → SumsTo s prod b (n + 1) t
+  unfolding xors
+  sums_lost n t z e μ h i c a k =
+      let C = code_of s prod in
+      let term : ℕ → ℕ = λ q. scaled C (power prod 2 (μ * q)) (b q) i c in
+      e μ h i c a k ∙ sym (xor_zero_r _) ∙ ap (bit_xor (xors n term)) (sym (scaled_zero C (power prod 2 (μ * n)) (b n) z i c k)) ∙ ap (λ m. xors m term) (sym (add-one n))
 
-  -- packet n is lost
-  pub gained_lost : (n : ℕ) (t : List ℕ) → among (lost l) l.len (start + n) ≡ true → Gained s prod l start n run e t → Gained s prod l start (n + 1) run e t
-  unfolding xors share
-  gained_lost n t gone d μ h i c a b =
-      d μ h i c a b
-      ∙ ap (bit_xor (block_at s e μ i c))
-      (sym (xor_zero_r _)
-      ∙ ap (λ z. bit_xor (xors n (share μ i c)) (cond z 0 (scaled (code_of s prod) (power prod 2 (μ * (start + n))) (block_at s run n) i c))) (sym gone)
-      ∙ ap (λ k. xors k (share μ i c)) (sym (add-one n)))
+  -- packets that count as zero leave the sums zero
+  pub sums_zero : (n : ℕ) (t : List ℕ) → ZeroRun t → ((q : ℕ) → q < n → ZeroPacket (code_of s prod) (b q)) → SumsTo s prod b n t
+  sums_zero n t e z μ h i c a k = e _ ∙ sym (xors_none n _ (λ q m. scaled_zero (code_of s prod) (power prod 2 (μ * q)) (b q) (z q m) i c k))

@@ -15,7 +15,7 @@ use Rattle.algebra.proofs.Loops.{taking_step, taken_step, taking_none, found_all
 use Rattle.algebra.proofs.Bridge.{same_rows, bridge_scaled}
 use Rattle.layout.specs.declared.shape.Shape.{Shape}
 use Rattle.layout.specs.Sizes.{parity_of}
-use Rattle.code.specs.Blocks.{code_of, block_at}
+use Rattle.layout.specs.Blocks.{code_of, block_at}
 use Rattle.code.specs.Solving.{node_at, gap_of, entry, Untouched, Copied, Keeps, stage_of, found_of}
 use Rattle.code.proofs.Stages.{packet_laws}
 

@@ -4,8 +4,8 @@ use native.Mathlib.Decide.{ℕ_discrete}
 use Rattle.layout.specs.declared.shape.Shape.{Shape}
 use Rattle.layout.specs.Sizes.{packet_of}
 use Rattle.code.specs.Solving.{Copied}
-use Rattle.code.proofs.Parts.{part_of}
-use Rattle.code.proofs.Entries.{word_lt}
+use Rattle.layout.proofs.Parts.{part_of}
+use Rattle.layout.proofs.Entries.{word_lt}
 
 -- the first k words of part n are those of part 0, and the other words are as they were
 pub record CopiedTo (n p k : ℕ) (e t : List ℕ) : Type 0 where

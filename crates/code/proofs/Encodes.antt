@@ -1,28 +1,25 @@
--- Parity packets are those that the solver finds where all parity positions are lost.
-use Rattle.std.proofs.Common.{◌≡◌, ℕ, zero, suc, ◌+◌, ◌-◌, ◌*◌, ◌^◌, ◌<◌, ◌≤◌, true, false, cond, ltb, ◌↔◌, List, ◌++◌, get_or, sym, ap, ◌∙◌, ap₂, add-zero, add-suc, mul-le-mul_right, add-mul, arith, length-append}
+-- Parity packets are those that are found where all parity positions are lost.
+use Rattle.std.proofs.Common.{◌≡◌, ℕ, ◌+◌, ◌-◌, ◌*◌, ◌^◌, ◌<◌, ◌≤◌, true, false, cond, ltb, List, ◌++◌, get_or, None, Ok, Err, Result, sym, refl, ap, ◌∙◌, subst, ap₂, inl, inr, mul-le-mul_right, add-mul, arith, length-append}
 use native.Mathlib.Decide.{dec_lt}
-use lib.Bits.{bit_xor, xor_zero_l, xor_zero_r, xor_assoc}
 use Rattle.std.proofs.lemmas.List.{get_or_append_left, get_or-append_right}
-use Rattle.galois.specs.Field.{FieldLaws, power}
-use Rattle.algebra.specs.Code.{Block, SamePacket, ZeroPacket, xors, scaled, syndrome, among}
+use Rattle.refusal.specs.declared.Refusal.{Refusal}
+use Rattle.refusal.specs.Numbers.{said}
+use Rattle.algebra.specs.Code.{Block, among}
 use Rattle.algebra.proofs.Marks.{true_false, among_at, among_off}
-use Rattle.algebra.proofs.Words.{xors_ext, xors_none, scaled_same, scaled_zero}
 use Rattle.layout.specs.declared.shape.Shape.{Shape}
 use Rattle.layout.specs.declared.losses.LossList.{LossList}
 use Rattle.layout.specs.Sizes.{parity_of, packet_of, Packets, lost, LostBelow}
-use Rattle.code.specs.Blocks.{code_of, block_at}
-use Rattle.code.specs.Sums.{shares, Gained}
-use Rattle.code.specs.Solving.{node_at, Keeps, sums_of}
-use Rattle.code.specs.Calls.{ZeroRun, Encoded}
-use Rattle.code.proofs.Entries.{word_lt}
-use Rattle.code.proofs.Runs.{same_runs}
-use Rattle.code.proofs.Repairs.{solved_iff}
-
--- an exclusive or in two parts
-xors_split : (a b : ℕ) (f : ℕ → ℕ) → xors (a + b) f ≡ bit_xor (xors a f) (xors b (λ j. f (a + j)))
-unfolding xors
-xors_split a zero f = ap (λ n. xors n f) (add-zero a) ∙ sym (xor_zero_r (xors a f))
-xors_split a (suc b) f = ap (λ n. xors n f) (add-suc a b) ∙ ap (λ u. bit_xor u (f (a + b))) (xors_split a b f) ∙ xor_assoc (xors a f) (xors b (λ j. f (a + j))) (f (a + b))
+use Rattle.layout.specs.Blocks.{block_at, ZeroRun}
+use Rattle.layout.proofs.Entries.{word_lt}
+use Rattle.layout.proofs.Blocks.{same_runs, row_lt, column_lt, place}
+use Rattle.layout.proofs.Passes.{passed}
+use Rattle.code.specs.Sums.{SumsTo}
+use Rattle.code.specs.Rebuilt.{rebuild_refusal, AfterRebuild}
+use Rattle.code.proofs.Absorbs.{sums_zero}
+use Rattle.code.specs.Lost.{AgreeOff, LostPackets}
+use Rattle.code.specs.Calls.{Encoded}
+use Rattle.code.specs.Held.{Reads, Summed, Filled}
+use Rattle.code.proofs.Losing.{lost_packets}
 
 module _ (s : Shape) (parity source : List ℕ) (long : Packets s (parity_of s) parity) where
   -- parity and source as one block
@@ -40,19 +37,16 @@ module _ (s : Shape) (parity source : List ℕ) (long : Packets s (parity_of s) 
       let e : q * packet_of s + k - n * packet_of s ≡ (q - n) * packet_of s + k = omega (arith, le, ap (λ m. m * packet_of s) whole, add-mul n (q - n) (packet_of s)) in
       get_or-append_right parity source (n * packet_of s) (q * packet_of s + k) 0 long (omega arith) ∙ ap (λ m. get_or source m 0) e
 
-module _ (s : Shape) (prod : ℕ → ℕ → ℕ) (inv : ℕ → ℕ) (laws : FieldLaws s.rows prod inv) (l : LossList) (count : l.len ≡ parity_of s) (ids : (k : ℕ) → k < l.len → lost l k ≡ k)
-    (x : List ℕ) (at-nodes : (k : ℕ) → k < l.len → node_at x k ≡ power prod 2 (lost l k)) (source : List ℕ) (long : Packets s s.sources source)
-    (e S₀ S₁ : List ℕ) (none : ZeroRun e) (gained : Gained s prod l (parity_of s) s.sources source e S₀)
-    (solved : Keeps s prod inv x l.len (sums_of s prod inv x l.len) (λ I. I) S₀ S₁) where
-  -- the block with zeros for parity
-  source_of : Block
-  source_of q i c = cond (ltb q (parity_of s)) 0 (block_at s source (q - parity_of s) i c)
+-- the block with zeros for parity
+unfoldable pub source_of : Shape → List ℕ → Block
+source_of s source q i c = cond (ltb q (parity_of s)) 0 (block_at s source (q - parity_of s) i c)
 
-  source_low : (q i c : ℕ) → q < parity_of s → source_of q i c ≡ 0
+module _ (s : Shape) (prod : ℕ → ℕ → ℕ) (l : LossList) (count : l.len ≡ parity_of s) (ids : (k : ℕ) → k < l.len → lost l k ≡ k) (source : List ℕ) (long : Packets s s.sources source) where
+  source_low : (q i c : ℕ) → q < parity_of s → source_of s source q i c ≡ 0
   unfolding source_of
   source_low q i c h = let b : ltb q (parity_of s) ≡ true = grind arith in ap (λ z. cond z 0 (block_at s source (q - parity_of s) i c)) b
 
-  source_high : (q i c : ℕ) → parity_of s ≤ q → source_of q i c ≡ block_at s source (q - parity_of s) i c
+  source_high : (q i c : ℕ) → parity_of s ≤ q → source_of s source q i c ≡ block_at s source (q - parity_of s) i c
   unfolding source_of
   source_high q i c h = let b : ltb q (parity_of s) ≡ false = grind arith in ap (λ z. cond z 0 (block_at s source (q - parity_of s) i c)) b
 
@@ -69,33 +63,27 @@ module _ (s : Shape) (prod : ℕ → ℕ → ℕ) (inv : ℕ → ℕ) (laws : Fi
   high_held : (j : ℕ) → among (lost l) l.len (parity_of s + j) ≡ false
   high_held j = among_off (lost l) l.len (parity_of s + j) (λ k h z. let a = ids k h in omega arith)
 
-  source_sums : (μ : ℕ) → μ < parity_of s → SamePacket (code_of s prod) (block_at s S₀ μ) (syndrome (code_of s prod) source_of μ)
-  unfolding syndrome
-  source_sums μ h i c p q =
-      let C = code_of s prod in
-      let r = parity_of s in
-      let term : ℕ → ℕ = λ m. scaled C (power prod 2 (μ * m)) (source_of m) i c in
-      let all : r + s.sources ≡ s.positions = let k = s.counts in omega arith in
-      let back : (j : ℕ) → r + j - r ≡ j = λ j. omega arith in
-      gained μ h i c p q ∙ ap (λ u. bit_xor u (shares s prod l r s.sources source μ i c)) (none _) ∙ xor_zero_l _
-      ∙ xors_ext s.sources _ (λ j. term (r + j)) (λ j _.
-      ap (λ b. cond b 0 (scaled C (power prod 2 (μ * (r + j))) (block_at s source j) i c)) (high_held j)
-      ∙ scaled_same C (power prod 2 (μ * (r + j))) (block_at s source j) (source_of (r + j)) (λ a m _ _. sym (source_high (r + j) a m (omega arith) ∙ ap (λ k. block_at s source k a m) (back j))) i c q)
-      ∙ sym (ap (λ n. xors n term) (sym all) ∙ xors_split r s.sources term
-      ∙ ap (λ u. bit_xor u (xors s.sources (λ j. term (r + j)))) (xors_none r term (λ m k. scaled_zero C (power prod 2 (μ * m)) (source_of m) (λ a b _ _. source_low m a b k) i c q)) ∙ xor_zero_l _)
+  -- the source packets, read one after another
+  source_reads : Reads s prod l (parity_of s) s.sources source (source_of s source)
+  source_reads = record {
+    held = λ j h f i c p r. let back : parity_of s + j - parity_of s ≡ j = omega arith in sym (source_high (parity_of s + j) i c (omega arith) ∙ ap (λ k. block_at s source k i c) back);
+    gone = λ j h f. true_false (among (lost l) l.len (parity_of s + j)) f (high_held j);
+  }
 
-  -- the parity whose block has all sums zero
-  parity_iff : (parity : List ℕ) → Packets s (parity_of s) parity
-      → ((μ : ℕ) → μ < l.len → ZeroPacket (code_of s prod) (syndrome (code_of s prod) (block_at s (parity ++ source)) μ)) ↔ ((k : ℕ) → k < l.len → SamePacket (code_of s prod) (block_at s S₁ k) (block_at s (parity ++ source) (lost l k)))
-  parity_iff parity size =
-      solved_iff s prod inv laws l parity_below (omega arith) x at-nodes source_of (λ k h i c p q. source_low (lost l k) i c (let a = ids k h in omega arith)) S₀ S₁ source_sums solved (block_at s (parity ++ source))
-      (λ q h f i c p r. source_high q i c (held_high q f) ∙ sym (joined_high s parity source size q i c (held_high q f)))
+  pub source_sums : (e S : List ℕ) → ZeroRun e → Summed s prod l (parity_of s) s.sources source e S (Ok tt) → SumsTo s prod (source_of s source) s.positions S
+  source_sums e S none summed =
+      let all : parity_of s + s.sources ≡ s.positions = let k = s.counts in omega arith in
+      subst (λ n. SumsTo s prod (source_of s source) n S) all (summed (source_of s source) source_reads (sums_zero s prod (source_of s source) (parity_of s) e none (λ q h i c _ _. source_low q i c h)))
+
+  -- parity and source agree with the source
+  joined_agrees : (parity : List ℕ) → Packets s (parity_of s) parity → AgreeOff s prod l (block_at s (parity ++ source)) (source_of s source)
+  joined_agrees parity size q h f i c p r = joined_high s parity source size q i c (held_high q f) ∙ sym (source_high q i c (held_high q f))
 
   at_low : (parity : List ℕ) → Packets s (parity_of s) parity → (k i c : ℕ) → k < l.len → i < s.rows → c < s.words → block_at s (parity ++ source) (lost l k) i c ≡ block_at s parity k i c
   at_low parity size k i c h p r = ap (λ m. block_at s (parity ++ source) m i c) (ids k h) ∙ joined_low s parity source size k i c (omega arith) p r
 
-  pub encoded : Packets s (parity_of s) S₁ → ((k : ℕ) → get_or S₁ k 0 < 2 ^ 32) → ((k : ℕ) → get_or source k 0 < 2 ^ 32) → Encoded s prod source S₁
-  encoded size fits fit = record {
+  pub encoded : (S₁ : List ℕ) → LostPackets s prod l (source_of s source) S₁ → Packets s (parity_of s) S₁ → ((k : ℕ) → get_or S₁ k 0 < 2 ^ 32) → ((k : ℕ) → get_or source k 0 < 2 ^ 32) → Encoded s prod source S₁
+  encoded S₁ found size fits fit = record {
     codeword = (
       length-append S₁ source ∙ (let k = s.counts in let sum : (parity_of s + s.sources) * packet_of s ≡ parity_of s * packet_of s + s.sources * packet_of s = add-mul (parity_of s) s.sources (packet_of s) in
           let all : parity_of s + s.sources ≡ s.positions = omega arith in ap₂ ◌+◌ size long ∙ sym sum ∙ ap (λ n. n * packet_of s) all),
@@ -104,10 +92,23 @@ module _ (s : Shape) (prod : ℕ → ℕ → ℕ) (inv : ℕ → ℕ) (laws : Fi
           | yes k ↦ rw (joined_low s S₁ source size q i c k p r) (fits (q * packet_of s + (i * s.words + c)))
           | no k ↦ rw (joined_high s S₁ source size q i c (omega arith)) (fit ((q - parity_of s) * packet_of s + (i * s.words + c)))
         ];
-        sums = λ μ h. (parity_iff S₁ size).1 (λ k m i c p r. sym (at_low S₁ size k i c m p r)) μ (omega arith);
+        sums = found.zero (block_at s (S₁ ++ source)) (joined_agrees S₁ size) (λ k h i c p r. at_low S₁ size k i c h p r);
       },
     );
     only = λ other long-other is.
         same_runs s (parity_of s) other S₁ long-other size
-        (λ q i c h p r. sym ((parity_iff other long-other).0 (λ μ m. is.1.sums μ (omega arith)) q (omega arith) i c p r ∙ at_low other long-other q i c (omega arith) p r));
+        (λ q i c h p r. sym (at_low other long-other q i c (omega arith) p r) ∙ found.only (block_at s (other ++ source)) (joined_agrees other long-other) is.1.sums q (omega arith) i c p r);
   }
+
+  -- what rebuild makes of the sums of the source packets: all sums are used, so none can contradict them
+  pub filled : (bits : ℕ) (S S₁ scratch scratch' : List ℕ) → SumsTo s prod (source_of s source) s.positions S → rebuild_refusal bits s l S scratch ≡ None
+      → Packets s (parity_of s) S₁ → ((k : ℕ) → get_or S₁ k 0 < 2 ^ 32) → ((k : ℕ) → get_or source k 0 < 2 ^ 32)
+      → (r : Result (Unit {0}) Refusal) → AfterRebuild s prod l bits S S₁ scratch scratch' r → Filled s prod source S₁ r
+  filled bits S S₁ scratch scratch' are pass size fits fit (Ok u) a =
+      encoded S₁ (lost_packets s prod l parity_below (omega arith) (source_of s source) (source_of s source) (λ q h f i c p r. refl) (λ k h i c p r. source_low (lost l k) i c (let e = ids k h in omega arith)) S are S₁ a.solved) size fits fit
+  filled bits S S₁ scratch scratch' are pass size fits fit (Err e) (inl a) = passed _ (said e) pass (sym a.refusal)
+  filled bits S S₁ scratch scratch' are pass size fits fit (Err e) (inr a) =
+      let u = a.solved.unmatched in
+      let i = row_lt s a.solved.word u.word_lt in
+      let c = column_lt s a.solved.word in
+      u.here _ _ i c (place s a.solved.word) (u.found.has a.solved.sum (let k = u.sum_lt in omega arith) _ _ i c)

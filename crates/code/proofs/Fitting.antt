@@ -6,7 +6,7 @@ use Rattle.algebra.specs.Fits.{FitAtMostOne, FitOne, FitSeveral}
 use Rattle.algebra.proofs.Fits.{at_most_one, exactly_one, several}
 use Rattle.layout.specs.declared.shape.Shape.{Shape}
 use Rattle.layout.specs.Sizes.{parity_of}
-use Rattle.code.specs.Blocks.{code_of}
+use Rattle.layout.specs.Blocks.{code_of}
 use Rattle.code.specs.Fits.{Everywhere}
 
 pub proper : (s : Shape) (prod : ℕ → ℕ → ℕ) (inv : ℕ → ℕ) → FieldLaws s.rows prod inv → Proper (code_of s prod) inv

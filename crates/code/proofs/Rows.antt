@@ -4,8 +4,9 @@ use native.Mathlib.Decide.{ℕ_discrete}
 use borrow.Rule.Slice.PartMut.{put_mid}
 use lib.Bits.{bit_xor, bit_and, and_mask, xor_zero_r}
 use Rattle.algebra.specs.Code.{Packet, xors, bit}
-use Rattle.code.specs.Blocks.{packet_in, selected}
-use Rattle.code.proofs.Parts.{part_written, part_kept}
+use Rattle.layout.specs.Blocks.{packet_in}
+use Rattle.code.specs.Packets.{selected}
+use Rattle.layout.proofs.Parts.{part_written, part_kept}
 
 -- the first n words of t are those of e with those of s added
 pub record Added (n : ℕ) (e s t : List ℕ) : Type 0 where

@@ -11,7 +11,7 @@ use Rattle.algebra.proofs.Loops.{staged_step, staged_first, staged_last}
 use Rattle.algebra.proofs.Bridge.{grid_laws, added_rows}
 use Rattle.layout.specs.declared.shape.Shape.{Shape}
 use Rattle.layout.specs.Sizes.{parity_of}
-use Rattle.code.specs.Blocks.{code_of, block_at}
+use Rattle.layout.specs.Blocks.{code_of, block_at}
 use Rattle.code.specs.Solving.{node_at, entry, Stepped, Keeps, sums_of, stage_of}
 
 -- the entries in stage j, with those above j + k done

@@ -1,25 +1,18 @@
 -- What encode, check and repair do, in the words of the code.
-use Rattle.std.specs.Prelude.{◌≡◌, ℕ, ◌+◌, ◌*◌, ◌<◌, Bool, true, false, ◌⊎◌, List, [], ◌∷◌, ◌++◌, Some, None, Ok, Err, Option, Result, ◌≢◌, slice_index}
+use Rattle.std.specs.Prelude.{◌≡◌, ℕ, ◌+◌, Bool, true, false, ◌⊎◌, List, [], ◌∷◌, ◌++◌, Some, None, Ok, Err, Option, Result}
 use Rattle.refusal.specs.declared.Refusal.{Refusal}
-use Rattle.refusal.specs.Numbers.{said}
-use Rattle.algebra.specs.Code.{Block, Codeword, SamePacket, ZeroPacket, SameBlock, syndrome, among}
+use Rattle.refusal.specs.Numbers.{said, or_else}
+use Rattle.algebra.specs.Code.{Codeword}
 use Rattle.layout.specs.declared.shape.Shape.{Shape}
 use Rattle.layout.specs.declared.losses.LossList.{LossList}
-use Rattle.layout.specs.Sizes.{parity_of, packet_of, Packets, lost}
-use Rattle.code.specs.Blocks.{code_of, block_at}
-use Rattle.code.specs.Checks.{width_refusal, run_refusal, loss_refusal, or_else}
+use Rattle.layout.specs.Sizes.{parity_of, Packets}
+use Rattle.layout.specs.Blocks.{code_of, block_at, ZeroRun}
+use Rattle.layout.specs.Checks.{width_refusal, run_refusal, loss_refusal}
+use Rattle.code.specs.Lost.{AgreeOff, Contradicted}
 
 -- the run holds n packets, and they are a codeword
 abbrev pub CodewordRun : Shape → (ℕ → ℕ → ℕ) → List ℕ → Type 0
 CodewordRun s prod run = Packets s s.positions run × Codeword (code_of s prod) (block_at s run)
-
--- two blocks have the same packets at the positions that are not lost
-abbrev pub AgreeOff : Shape → (ℕ → ℕ → ℕ) → LossList → Block → Block → Type 0
-AgreeOff s prod l b d = (q : ℕ) → q < s.positions → among (lost l) l.len q ≡ false → SamePacket (code_of s prod) (b q) (d q)
-
--- a run of zeros
-abbrev pub ZeroRun : List ℕ → Type 0
-ZeroRun run = (k : ℕ) → slice_index run k ≡ 0
 
 -- ENCODE
 
@@ -62,23 +55,6 @@ pub record Repaired (s : Shape) (prod : ℕ → ℕ → ℕ) (l : LossList) (bef
   pub agrees : AgreeOff s prod l (block_at s after) (block_at s before)
   pub only : (other : List ℕ) → CodewordRun s prod other → AgreeOff s prod l (block_at s other) (block_at s before) → other ≡ after
 
--- b is the block with the lost packets solved: the only one that agrees with the block and has as many zero sums as packets are lost
-pub record SolvedBlock (s : Shape) (prod : ℕ → ℕ → ℕ) (l : LossList) (block : List ℕ) (b : Block) : Type 0 where
-  pub agrees : AgreeOff s prod l b (block_at s block)
-  pub zero : (μ : ℕ) → μ < l.len → ZeroPacket (code_of s prod) (syndrome (code_of s prod) b μ)
-  pub only : (d : Block) → AgreeOff s prod l d (block_at s block) → ((μ : ℕ) → μ < l.len → ZeroPacket (code_of s prod) (syndrome (code_of s prod) d μ)) → SameBlock (code_of s prod) d b
-
--- no codeword agrees; with the lost packets solved, `sum` is the lowest sum that is not zero and `word` its first word that is not
-pub record Contradicted (s : Shape) (prod : ℕ → ℕ → ℕ) (l : LossList) (block : List ℕ) (sum word : ℕ) : Type 0 where
-  pub none : (other : List ℕ) → CodewordRun s prod other → AgreeOff s prod l (block_at s other) (block_at s block) → ⊥
-  pub b : Block
-  pub solved : SolvedBlock s prod l block b
-  pub sum_lt : sum < parity_of s
-  pub word_lt : word < packet_of s
-  pub lower : (μ : ℕ) → μ < sum → ZeroPacket (code_of s prod) (syndrome (code_of s prod) b μ)
-  pub before : (i c : ℕ) → i < s.rows → c < s.words → i * s.words + c < word → syndrome (code_of s prod) b sum i c ≡ 0
-  pub here : (i c : ℕ) → i < s.rows → c < s.words → i * s.words + c ≡ word → syndrome (code_of s prod) b sum i c ≢ 0
-
 -- refused before any work: every run is as it was
 pub record Unrepaired (bits : ℕ) (s : Shape) (l : LossList) (block block' work work' : List ℕ) (e : ℕ × List ℕ) : Type 0 where
   pub refusal : repair_refusal bits s block l work ≡ Some e
@@ -90,7 +66,7 @@ pub record RefusedAs8 (s : Shape) (prod : ℕ → ℕ → ℕ) (l : LossList) (b
   pub sum : ℕ
   pub word : ℕ
   pub refusal : e ≡ (8, sum ∷ word ∷ [])
-  pub contradicted : Contradicted s prod l block sum word
+  pub contradicted : Contradicted s prod l (block_at s block) sum word
   pub same_block : block' ≡ block
 
 -- what a repair that passed its checks does to the block

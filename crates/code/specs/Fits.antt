@@ -6,7 +6,7 @@ use Rattle.algebra.specs.Fits.{FitAtMostOne, FitOne, FitSeveral}
 use Rattle.layout.specs.declared.shape.Shape.{Shape}
 use Rattle.code.specs.declared.fits.Fit.{Fit}
 use Rattle.code.specs.declared.fits.Fit.TheVariants.{AtMostOne, One, Several}
-use Rattle.code.specs.Blocks.{code_of}
+use Rattle.layout.specs.Blocks.{code_of}
 
 -- over every arithmetic and at any `held` positions
 abbrev pub Everywhere : Shape → ℕ → (Code → (ℕ → Bool) → Type 0) → Type 0

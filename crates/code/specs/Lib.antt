@@ -1,7 +1,10 @@
-pub mod Checks
-pub mod Blocks
+pub mod Packets
 pub mod Sums
 pub mod Solving
 pub mod Found
+pub mod Rebuilt
+pub mod Lost
+pub mod Held
+pub mod Written
 pub mod Calls
 pub mod Fits

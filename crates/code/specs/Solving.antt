@@ -6,7 +6,7 @@ use Rattle.algebra.specs.Loops.{Sys, found}
 use Rattle.algebra.specs.Grids.{Grid, grid_xor, grid_ops, rows}
 use Rattle.layout.specs.declared.shape.Shape.{Shape}
 use Rattle.layout.specs.Sizes.{parity_of}
-use Rattle.code.specs.Blocks.{code_of, block_at}
+use Rattle.layout.specs.Blocks.{code_of, block_at}
 
 -- node number s
 abbrev pub node_at : List ℕ → ℕ → ℕ

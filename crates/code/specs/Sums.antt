@@ -1,11 +1,10 @@
 -- Packets added to the sums of a block, and the first word of the sums that is not zero.
-use Rattle.std.specs.Prelude.{◌≡◌, ℕ, ◌+◌, ◌*◌, ◌<◌, ◌≤◌, cond, List, Some, None, Option, bit_xor, slice_index, ◌≢◌}
+use Rattle.std.specs.Prelude.{◌≡◌, ℕ, ◌+◌, ◌*◌, ◌<◌, ◌≤◌, List, Some, None, Option, bit_xor, slice_index, ◌≢◌}
 use Rattle.galois.specs.Field.{power}
-use Rattle.algebra.specs.Code.{Packet, SamePacket, scaled, xors, among}
+use Rattle.algebra.specs.Code.{Packet, Block, SamePacket, scaled, xors}
 use Rattle.layout.specs.declared.shape.Shape.{Shape}
-use Rattle.layout.specs.declared.losses.LossList.{LossList}
-use Rattle.layout.specs.Sizes.{parity_of, packet_of, lost}
-use Rattle.code.specs.Blocks.{code_of, block_at}
+use Rattle.layout.specs.Sizes.{parity_of, packet_of}
+use Rattle.layout.specs.Blocks.{code_of, block_at}
 
 -- the sums from `first` up to `end` have gained x^μ times a packet, and the others are as they were
 pub record Absorbed (s : Shape) (prod : ℕ → ℕ → ℕ) (first end x : ℕ) (p : Packet) (before after : List ℕ) : Type 0 where
@@ -14,15 +13,15 @@ pub record Absorbed (s : Shape) (prod : ℕ → ℕ → ℕ) (first end x : ℕ)
   pub below : (μ : ℕ) → μ < first → SamePacket (code_of s prod) (block_at s after μ) (block_at s before μ)
   pub above : (μ : ℕ) → end ≤ μ → μ < parity_of s → SamePacket (code_of s prod) (block_at s after μ) (block_at s before μ)
 
--- what sum μ gains from the packets of a run at the positions from `start` on that are not lost
-abbrev pub shares : Shape → (ℕ → ℕ → ℕ) → LossList → ℕ → ℕ → List ℕ → ℕ → Packet
-shares s prod l start count run μ i c =
-    xors count (λ j. cond (among (lost l) l.len (start + j)) 0 (scaled (code_of s prod) (power prod 2 (μ * (start + j))) (block_at s run j) i c))
+-- every sum has gained its share of the packet at a position: sum μ gains α^(μ·position) times it
+abbrev pub Gained : Shape → (ℕ → ℕ → ℕ) → ℕ → Packet → List ℕ → List ℕ → Type 0
+Gained s prod position p before after =
+    (μ : ℕ) → μ < parity_of s → SamePacket (code_of s prod) (block_at s after μ) (λ i c. bit_xor (block_at s before μ i c) (scaled (code_of s prod) (power prod 2 (μ * position)) p i c))
 
--- every sum has gained its shares
-abbrev pub Gained : Shape → (ℕ → ℕ → ℕ) → LossList → ℕ → ℕ → List ℕ → List ℕ → List ℕ → Type 0
-Gained s prod l start count run before after =
-    (μ : ℕ) → μ < parity_of s → SamePacket (code_of s prod) (block_at s after μ) (λ i c. bit_xor (block_at s before μ i c) (shares s prod l start count run μ i c))
+-- the run holds the sums of the first n packets of a block
+abbrev pub SumsTo : Shape → (ℕ → ℕ → ℕ) → Block → ℕ → List ℕ → Type 0
+SumsTo s prod b n run =
+    (μ : ℕ) → μ < parity_of s → SamePacket (code_of s prod) (block_at s run μ) (λ i c. xors n (λ q. scaled (code_of s prod) (power prod 2 (μ * q)) (b q) i c))
 
 -- the words of the sums from `first` up to `end` are zero
 abbrev pub ZeroSums : Shape → List ℕ → ℕ → ℕ → Type 0

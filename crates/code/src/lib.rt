@@ -1,10 +1,12 @@
-// An erasure code over blocks of packets: encode, check and repair, over any arithmetic.
+// An erasure code over blocks of packets, over any arithmetic: the sums of a block and its lost packets from them,
+// and encode, check and repair.
 #![tactic(auto)]
 
 pub mod block;
 pub mod fits;
 mod packet;
+pub mod rebuild;
 mod solver;
-mod sums;
+pub mod sums;
 #[cfg(test)]
 mod tests;

@@ -2,7 +2,8 @@
 ghost use Rattle.std.specs.Prelude.{◌≡◌, ℕ, ◌+◌, ◌*◌, ◌%◌, ◌^◌, ◌<◌, length, bit_xor, slice_index};
 ghost use Rattle.algebra.specs.Code.{SamePacket, scaled};
 ghost use Rattle.layout.specs.Sizes.{packet_of};
-ghost use Rattle.code.specs.Blocks.{code_of, packet_in, selected};
+ghost use Rattle.layout.specs.Blocks.{code_of, packet_in};
+ghost use Rattle.code.specs.Packets.{selected};
 
 use field::Arithmetic;
 use layout::shape::Shape;

@@ -5,7 +5,7 @@ ghost use Rattle.algebra.specs.Loops.{Apart};
 ghost use Rattle.algebra.specs.Packets.{Nz};
 ghost use Rattle.algebra.specs.Grids.{grid_ops};
 ghost use Rattle.layout.specs.Sizes.{parity_of, packet_of, Packets, lost, LostBelow};
-ghost use Rattle.code.specs.Blocks.{code_of};
+ghost use Rattle.layout.specs.Blocks.{code_of};
 ghost use Rattle.code.specs.Solving.{node_at, gap_of, Copied, Stepped, Untouched, Keeps, sums_of, stage_of, found_of};
 
 use crate::packet::{add_times, add_words};

@@ -1,17 +1,19 @@
 // The sums of a block: sum μ is the exclusive or of α^(μ·i) times packet i.
-ghost use Rattle.std.specs.Prelude.{◌≡◌, ◌+◌, ◌*◌, ◌^◌, ◌<◌, ◌≤◌, length};
+ghost use Rattle.std.specs.Prelude.{◌≡◌, ◌^◌, ◌<◌, ◌≤◌, length};
+ghost use Rattle.refusal.specs.Numbers.{refused_with};
 ghost use Rattle.layout.specs.Sizes.{parity_of, packet_of, Packets};
-ghost use Rattle.code.specs.Blocks.{packet_in};
-ghost use Rattle.code.specs.Sums.{Absorbed, Gained, FirstNonzero};
+ghost use Rattle.layout.specs.Blocks.{packet_in};
+ghost use Rattle.code.specs.Sums.{Absorbed, FirstNonzero};
+ghost use Rattle.code.specs.Rebuilt.{absorb_refusal, AfterAbsorb};
 
 use crate::packet::add_times;
 use field::Arithmetic;
 use field::power::raise;
-use layout::losses::LossList;
 use layout::shape::Shape;
+use refusal::Refusal;
 
 // Adds a packet at node `x` to the sums from `first` on: sum μ gains x^μ times the packet.
-pub(crate) fn absorb<F: Arithmetic>(
+pub(crate) fn add_packet<F: Arithmetic>(
     shape: &Shape,
     sums: &mut [u32],
     first: usize,
@@ -33,29 +35,25 @@ pub(crate) fn absorb<F: Arithmetic>(
     }
 }
 
-// Adds to all sums the packets of `run`, at the positions from `start` on, that are not lost.
-pub(crate) fn absorb_held<F: Arithmetic>(
+// Adds the packet at a position of a block to the block's sums.
+pub fn absorb<F: Arithmetic>(
     shape: &Shape,
     sums: &mut [u32],
-    run: &[u32],
-    start: usize,
-    count: usize,
-    losses: &LossList,
-)
-    requires width { shape.now.rows ≡ F.Arithmetic.bits }
-    requires sums { Packets shape.now (parity_of shape.now) sums.old }
-    requires run { Packets shape.now count run.now }
-    requires end { start + count ≤ shape.now.positions }
-    ensures { Gained shape.now F.Arithmetic.prod losses.now start count run.now sums.old sums.new }
+    position: usize,
+    packet: &[u32],
+) -> Result<(), Refusal>
+    ensures answer { refused_with result ≡ absorb_refusal F.Arithmetic.bits shape.now sums.old position packet.now }
+    ensures after { AfterAbsorb shape.now F.Arithmetic.prod position packet.now sums.old sums.new result }
 {
-    let p = shape.packet();
-    let mut x = raise::<F>(2, start as u32);
-    for i in 0..count {
-        if !losses.contains(start + i) {
-            absorb::<F>(shape, sums, 0, x, &run[i * p..i * p + p]);
-        }
-        x = F::product(2, x);
+    shape.check_width::<F>()?;
+    shape.check_run(shape.parity(), sums, 0)?;
+    shape.check_run(1, packet, 1)?;
+    if position >= shape.positions() {
+        return Err(Refusal::OutsideShape);
     }
+    let x = raise::<F>(2, position as u32);
+    add_packet::<F>(shape, sums, 0, x, packet);
+    Ok(())
 }
 
 // The first word that is not zero in the sums from `first` on: the sum, and the word in it.

@@ -4,7 +4,7 @@ use field::nibble::*;
 use field::octet::*;
 use field::tabled::*;
 use layout::losses::LossList;
-use layout::shape::Shape;
+use layout::shape::{Dimensions, Shape};
 use refusal::Refusal;
 use std::test::Fail;
 
@@ -12,7 +12,13 @@ use std::test::Fail;
 const CODEWORD: [u32; 12] = [8, 9, 2, 4, 9, 0xB, 6, 0xC, 1, 2, 4, 8];
 
 fn small() -> Result<Shape, Refusal> {
-    Shape::new::<Nibble>(4, 3, 1, 1, 1)
+    Shape::new::<Nibble>(Dimensions {
+        rows: 4,
+        positions: 3,
+        sources: 1,
+        blocks: 1,
+        words: 1,
+    })
 }
 
 #[test]

@@ -1,10 +1,10 @@
 use Rattle.std.proofs.Common.{◌≡◌, ◌<◌, sym, refl, ap, ◌∙◌, arith, rules}
 use Rattle.layout.specs.Sizes.{parity_of}
-use Rattle.code.specs.Blocks.{block_at}
-use Rattle.code.proofs.Places.{part_ends}
-use Rattle.code.proofs.Parts.{part_length}
-use Rattle.code.proofs.Entries.{entry_read}
-use Rattle.code.proofs.Founds.{written_none, written_more}
+use Rattle.layout.specs.Blocks.{block_at}
+use Rattle.layout.proofs.Places.{part_ends}
+use Rattle.layout.proofs.Parts.{part_length}
+use Rattle.layout.proofs.Entries.{entry_read}
+use Rattle.code.proofs.Writes.{written_none, written_more}
 use Rattle.code.proofs.block.write_found.Goals as goal
 
 pub slice_bounds-write_packet-end : goal.slice_bounds-write_packet-end

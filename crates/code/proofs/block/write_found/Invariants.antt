@@ -1,4 +1,4 @@
-use Rattle.code.specs.Found.{Written}
+use Rattle.code.specs.Written.{Written}
 use Rattle.code.proofs.block.write_found.Given as goal
 
 abbrev pub invariant-loop-s : goal.invariant-loop-s

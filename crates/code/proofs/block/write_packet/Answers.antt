@@ -1,7 +1,7 @@
 use Rattle.std.proofs.Common.{◌≡◌, ◌+◌, ◌*◌, ◌≤◌, length, refl, ap, ◌∙◌, arith, rules}
-use Rattle.code.specs.Blocks.{packet_in}
-use Rattle.code.proofs.Places.{part_ends}
-use Rattle.code.proofs.Entries.{entry_written, entry_kept}
+use Rattle.layout.specs.Blocks.{packet_in}
+use Rattle.layout.proofs.Places.{part_ends}
+use Rattle.layout.proofs.Entries.{entry_written, entry_kept}
 use Rattle.code.proofs.block.write_packet.Goals as goal
 
 pub overflow_mul-position : goal.overflow_mul-position

@@ -1,8 +1,9 @@
 use Rattle.std.proofs.Common.{◌+◌, ◌*◌, ◌≤◌, length, ap, ◌∙◌, arith, rules}
 use lib.Bits.{bit_xor}
-use Rattle.code.proofs.Places.{part_ends}
-use Rattle.code.specs.Blocks.{packet_in, selected}
-use Rattle.code.proofs.Parts.{part_read, part_length}
+use Rattle.layout.proofs.Places.{part_ends}
+use Rattle.layout.specs.Blocks.{packet_in}
+use Rattle.code.specs.Packets.{selected}
+use Rattle.layout.proofs.Parts.{part_read, part_length}
 use Rattle.code.proofs.Rows.{rows_none, rows_more}
 use Rattle.code.proofs.packet.add_product.Goals as goal
 

@@ -1,8 +1,9 @@
 use Rattle.std.proofs.Common.{◌≡◌, ◌+◌, ◌*◌, ◌/◌, ◌^◌, ◌≤◌, length, get_or, sym, ap, ◌∙◌, ap₂, arith, rules}
 use lib.Bits.{bit_xor, bit_and, and_mask, xor_assoc, xor_zero_r}
-use Rattle.code.specs.Blocks.{packet_in, selected}
-use Rattle.code.proofs.Places.{part_ends}
-use Rattle.code.proofs.Parts.{part_read, part_length}
+use Rattle.layout.specs.Blocks.{packet_in}
+use Rattle.code.specs.Packets.{selected}
+use Rattle.layout.proofs.Places.{part_ends}
+use Rattle.layout.proofs.Parts.{part_read, part_length}
 use Rattle.code.proofs.Rows.{selected_none, selected_set, selected_clear}
 use Rattle.code.proofs.packet.add_selected.Goals as goal
 use Rattle.code.proofs.packet.add_selected.Goals.{then-columns-j-eq1, else-columns-j-eq1}

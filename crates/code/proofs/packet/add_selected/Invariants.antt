@@ -1,6 +1,7 @@
 use Rattle.std.proofs.Common.{◌≡◌, ℕ, ◌<◌, get_or}
 use lib.Bits.{bit_xor}
-use Rattle.code.specs.Blocks.{packet_in, selected}
+use Rattle.layout.specs.Blocks.{packet_in}
+use Rattle.code.specs.Packets.{selected}
 use Rattle.code.proofs.packet.add_selected.Given as goal
 
 abbrev pub invariant-loop-j : goal.invariant-loop-j

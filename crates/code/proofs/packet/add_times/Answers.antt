@@ -3,7 +3,7 @@ use lib.Bits.{bit_xor}
 use Rattle.galois.proofs.Powers.{power_alpha}
 use Rattle.algebra.specs.Code.{bit, scaled}
 use Rattle.algebra.proofs.Words.{xors_ext}
-use Rattle.code.specs.Blocks.{packet_in}
+use Rattle.layout.specs.Blocks.{packet_in}
 use Rattle.code.proofs.packet.add_times.Goals as goal
 
 pub returns : goal.returns

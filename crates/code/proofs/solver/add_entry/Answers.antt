@@ -2,10 +2,10 @@ use Rattle.std.proofs.Common.{◌+◌, ◌*◌, ◌%◌, ◌^◌, ◌≤◌, len
 use lib.Bits.{bit_xor}
 use Rattle.algebra.specs.Code.{scaled}
 use Rattle.algebra.proofs.Words.{scaled_same}
-use Rattle.code.specs.Blocks.{code_of, packet_in, block_at}
-use Rattle.code.proofs.Places.{part_ends}
-use Rattle.code.proofs.Parts.{part_length}
-use Rattle.code.proofs.Entries.{entry_read, entry_written, entry_kept}
+use Rattle.layout.specs.Blocks.{code_of, packet_in, block_at}
+use Rattle.layout.proofs.Places.{part_ends}
+use Rattle.layout.proofs.Parts.{part_length}
+use Rattle.layout.proofs.Entries.{entry_read, entry_written, entry_kept}
 use Rattle.code.proofs.solver.add_entry.Goals as goal
 
 pub slice_bounds-copy_from_slice-end : goal.slice_bounds-copy_from_slice-end

@@ -5,11 +5,11 @@ use Rattle.algebra.specs.Laws.{gap}
 use Rattle.algebra.specs.Loops.{theta}
 use Rattle.algebra.specs.Grids.{grid_ops}
 use Rattle.layout.specs.Sizes.{parity_of}
-use Rattle.code.specs.Blocks.{code_of, packet_in}
-use Rattle.code.proofs.Places.{part_ends}
-use Rattle.code.proofs.Parts.{part_length}
+use Rattle.layout.specs.Blocks.{code_of, packet_in}
+use Rattle.layout.proofs.Places.{part_ends}
+use Rattle.layout.proofs.Parts.{part_length}
 use Rattle.code.specs.Solving.{node_at}
-use Rattle.code.proofs.Entries.{word_lt, entry_read, first_read, entry_written, entry_kept}
+use Rattle.layout.proofs.Entries.{word_lt, entry_read, first_read, entry_written, entry_kept}
 use Rattle.code.proofs.Stages.{laws_of}
 use Rattle.code.proofs.Backs.{Cleared, factor, gap_is, cleared_none, cleared_more, cleared_all}
 use Rattle.code.proofs.solver.backward.Goals as goal

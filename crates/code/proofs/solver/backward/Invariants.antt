@@ -1,5 +1,5 @@
 use Rattle.std.proofs.Common.{ℕ, List}
-use Rattle.code.specs.Blocks.{packet_in}
+use Rattle.layout.specs.Blocks.{packet_in}
 use Rattle.code.proofs.Backs.{Cleared}
 use Rattle.code.proofs.solver.backward.Given as goal
 

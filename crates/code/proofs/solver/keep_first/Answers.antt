@@ -1,6 +1,6 @@
 use Rattle.std.proofs.Common.{◌≡◌, refl, ◌∙◌, arith}
 use Rattle.layout.specs.Sizes.{packet_of}
-use Rattle.code.proofs.Places.{part_ends}
+use Rattle.layout.proofs.Places.{part_ends}
 use Rattle.code.proofs.Copies.{copied_none, copied_more, copied_packet}
 use Rattle.code.proofs.solver.keep_first.Goals as goal
 

@@ -3,7 +3,7 @@ use native.Mathlib.Decide.{ℕ_discrete, dec_lt}
 use Rattle.galois.specs.Field.{power}
 use Rattle.galois.proofs.Powers.{two_lt, power_lt}
 use Rattle.layout.specs.Sizes.{lost}
-use Rattle.code.proofs.Parts.{get_or_zeros}
+use Rattle.layout.proofs.Parts.{get_or_zeros}
 use Rattle.code.proofs.solver.nodes.Goals as goal
 
 pub overflow_cast-p : goal.overflow_cast-p

@@ -1,50 +1,44 @@
-use Rattle.std.proofs.Common.{◌≡◌, ◌+◌, ◌*◌, ◌^◌, ◌<◌, ◌≤◌, length, sym, ap, ◌∙◌, ap₂, mod-eq_of_lt, add-one, arith, rules}
+use Rattle.std.proofs.Common.{◌≡◌, true, ltb, sym, ap, ◌∙◌, mod-eq_of_lt, one-mul, arith}
 use lib.Bits.{bit_xor}
+use Rattle.std.proofs.lemmas.Bool.{cond-true}
 use Rattle.galois.specs.Field.{power}
-use Rattle.galois.proofs.Powers.{power_lt}
+use Rattle.galois.proofs.Powers.{two_lt, power_lt, power_mul}
 use Rattle.algebra.specs.Code.{scaled}
-use Rattle.layout.specs.Sizes.{parity_of}
-use Rattle.code.specs.Blocks.{code_of, packet_in}
-use Rattle.code.proofs.Places.{part_ends}
-use Rattle.code.proofs.Parts.{part_length}
-use Rattle.code.proofs.Entries.{entry_read}
-use Rattle.code.proofs.Absorbs.{absorbed_none, absorbed_more}
+use Rattle.layout.specs.Sizes.{packet_of}
+use Rattle.layout.specs.Checks.{run_refusal}
+use Rattle.layout.specs.Blocks.{code_of, packet_in, block_at}
+use Rattle.layout.proofs.Passes.{pass_both, width_passes, run_passes}
 use Rattle.code.proofs.sums.absorb.Goals as goal
 
-pub slice_bounds-add_times-end : goal.slice_bounds-add_times-end
-slice_bounds-add_times-end g c =
-    let h = part_ends c.loop-sum.sum _ c.packet-p.result c.parity-sum-end.ensures c.packet-p.ensures.value c.requires.sums c.loop-sum-test.true in
-    search rules
-
-pub loop-sum-init : goal.loop-sum-init
-loop-sum-init g c =
-    (c.raise-a.ensures ∙ ap (λ y. power g.F.Arithmetic.prod y c.args.first) (mod-eq_of_lt c.requires.element), absorbed_none _ _ _ _ _ _)
-
-pub loop-sum-preserved : goal.loop-sum-preserved
-unfolding power
-loop-sum-preserved g c =
+pub add_packet-requires : goal.add_packet-requires
+add_packet-requires g c =
     let f = g.F.Arithmetic in
     let laws = g.met.F.Arithmetic.field in
     let s = c.args.shape.now in
-    let x = c.args.x in
-    let n = c.loop-sum.sum in
-    let v = c.packet-p.result in
-    let t = c.loop-sum.sums in
-    let size = c.packet-p.ensures.value in
-    let is = c.loop-sum.invariant.0 in
-    let lt : c.loop-sum.a < 2 ^ f.bits = rw is (power_lt laws x n c.requires.element) in
-    let fits : n * v + v ≤ length t = part_ends n _ v c.parity-sum-end.ensures size (c.loop-sum.auto.sums ∙ c.requires.sums) c.loop-sum-test.true in
-    let long = part_length t n v fits in
-    let within : n < parity_of s = let e = c.parity-sum-end.ensures in let h = c.loop-sum-test.true in omega arith in (
-      c.product-a.ensures ∙ ap₂ f.prod (mod-eq_of_lt c.requires.element) (mod-eq_of_lt lt ∙ is) ∙ ap (power f.prod x) (sym (add-one n)),
-      absorbed_more s f.prod c.args.first x (packet_in s.words c.args.packet.now) _ n v _ t c.add_times.new.target size (omega arith) c.loop-sum.auto.sum within fits (omega arith)
-          (λ i k h l. c.add_times.ensures i k h l
-          ∙ ap₂ (λ u b. bit_xor u (scaled (code_of s f.prod) b (packet_in s.words c.args.packet.now) i k)) (entry_read s n v t size i k h l) (mod-eq_of_lt lt ∙ is))
-          c.loop-sum.invariant.1,
-    )
+    let node : c.raise-x.result ≡ power f.prod 2 c.args.position = c.raise-x.ensures ∙ ap (λ a. power f.prod a c.args.position) (mod-eq_of_lt (two_lt laws)) in
+    record {
+      width = width_passes f.bits s (sym c.in_ok-check_width.ensures);
+      sums = rw c.parity.ensures at (run_passes s c.parity.result c.args.sums.now 0 (sym c.in_ok-check_run.ensures));
+      packet = run_passes s 1 c.args.packet.now 1 (sym c.in_ok-check_run-2.ensures) ∙ one-mul (packet_of s);
+      first = omega arith;
+      element = rw node (power_lt laws 2 c.args.position (two_lt laws));
+    }
 
 pub returns : goal.returns
 returns g c =
+    let f = g.F.Arithmetic in
+    let laws = g.met.F.Arithmetic.field in
     let s = c.args.shape.now in
-    let all : c.loop-sum.sum ≡ parity_of s = let e = c.parity-sum-end.ensures in let h = c.requires.first in omega arith in
-    rw all at c.loop-sum.invariant.1
+    let q = c.args.position in
+    let node : c.raise-x.result ≡ power f.prod 2 q = c.raise-x.ensures ∙ ap (λ a. power f.prod a q) (mod-eq_of_lt (two_lt laws)) in
+    let within : ltb q s.positions ≡ true = let v = c.positions.ensures.value in let h = c.if-position-positions.false in grind arith in
+    record {
+      answer =
+          sym (pass_both _ _ (sym c.in_ok-check_width.ensures)
+          (pass_both _ _ (ap (λ n. run_refusal s n c.args.sums.now 0) (sym c.parity.ensures) ∙ sym c.in_ok-check_run.ensures)
+          (pass_both _ _ (sym c.in_ok-check_run-2.ensures) (cond-true _ _ _ within))));
+      after = λ μ h i k a b.
+          c.add_packet.ensures.at μ (omega arith) h i k a b
+          ∙ ap (λ y. bit_xor (block_at s c.args.sums.now μ i k) (scaled (code_of s f.prod) y (packet_in s.words c.args.packet.now) i k))
+          (ap (λ y. power f.prod y μ) node ∙ power_mul laws 2 q μ (two_lt laws));
+    }

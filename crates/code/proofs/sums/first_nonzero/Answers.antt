@@ -1,7 +1,7 @@
 use Rattle.std.proofs.Common.{◌+◌, ◌*◌, get_or, ap, ◌∙◌, arith}
 use native.Mathlib.Decide.{ℕ_discrete}
 use Rattle.layout.specs.Sizes.{packet_of}
-use Rattle.code.proofs.Places.{part_word}
+use Rattle.layout.proofs.Places.{part_word}
 use Rattle.code.proofs.sums.first_nonzero.Goals as goal
 
 pub bounds-sums-sum : goal.bounds-sums-sum

@@ -1,5 +1,0 @@
-use Rattle.solver.proofs.Rows.{Added}
-use Rattle.solver.proofs.packet.add_words.Given as goal
-
-abbrev pub invariant-loop-i : goal.invariant-loop-i
-invariant-loop-i l = Added l.i l.initial.target l.source l.target
