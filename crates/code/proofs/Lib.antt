@@ -3,6 +3,9 @@ pub mod Absorbs
 pub mod Stages
 pub mod Backs
 pub mod Copies
+pub mod Chunks
+pub mod FromFn
+pub mod Nonzero
 pub mod Founds
 pub mod Rebuilds
 pub mod Passes

@@ -1,7 +1,7 @@
 // Encode, check and repair one block.
 ghost use Rattle.std.specs.Prelude.{◌≡◌, ℕ, ◌+◌, ◌<◌, ◌≤◌, length, ◌≢◌};
 ghost use Rattle.refusal.specs.Numbers.{refused_with};
-ghost use Rattle.layout.specs.Sizes.{parity_of, packet_of, Packets, LostBelow};
+ghost use Rattle.layout.specs.Sizes.{parity_of, packet_of, packets_in, Packets, LostBelow};
 ghost use Rattle.layout.specs.Blocks.{block_at, packet_in, ZeroRun};
 ghost use Rattle.code.specs.Lost.{FoundLost};
 ghost use Rattle.code.specs.Held.{Summed, Filled};
@@ -22,19 +22,17 @@ fn absorb_held<F: Arithmetic>(
     sums: &mut [u32],
     run: &[u32],
     start: usize,
-    count: usize,
     losses: &LossList,
 ) -> Result<(), Refusal>
     requires width { shape.now.rows ≡ F.Arithmetic.bits }
     requires sums { Packets shape.now (parity_of shape.now) sums.old }
-    requires run { Packets shape.now count run.now }
-    requires end { start + count ≤ shape.now.positions }
-    ensures { Summed shape.now F.Arithmetic.prod losses.now start count run.now sums.old sums.new result }
+    requires run { Packets shape.now (packets_in shape.now run.now) run.now }
+    requires end { start + packets_in shape.now run.now ≤ shape.now.positions }
+    ensures { Summed shape.now F.Arithmetic.prod losses.now start (packets_in shape.now run.now) run.now sums.old sums.new result }
 {
-    let p = shape.packet();
-    for i in 0..count {
+    for (i, packet) in run.chunks(shape.packet()).enumerate() {
         if !losses.contains(start + i) {
-            absorb::<F>(shape, sums, start + i, &run[i * p..i * p + p])?;
+            absorb::<F>(shape, sums, start + i, packet)?;
         }
     }
     Ok(())
@@ -57,7 +55,7 @@ fn find_lost<F: Arithmetic>(
     requires below { LostBelow losses.now shape.now.positions }
     ensures { FoundLost shape.now F.Arithmetic.prod losses.now (block_at shape.now block.now) sums.new result }
 {
-    absorb_held::<F>(shape, sums, block, 0, shape.positions(), losses)?;
+    absorb_held::<F>(shape, sums, block, 0, losses)?;
     rebuild::<F>(shape, losses, sums, scratch)
 }
 
@@ -81,9 +79,8 @@ fn write_found(shape: &Shape, losses: &LossList, sums: &[u32], block: &mut [u32]
     requires below { LostBelow losses.now shape.now.positions }
     ensures { Written shape.now losses.now losses.now.len sums.now block.old block.new }
 {
-    let p = shape.packet();
-    for (s, at) in losses.positions().iter().enumerate() {
-        write_packet(shape, block, *at, &sums[s * p..s * p + p]);
+    for (at, packet) in losses.positions().iter().zip(sums.chunks(shape.packet())) {
+        write_packet(shape, block, *at, packet);
     }
 }
 
@@ -105,14 +102,7 @@ fn fill_parity<F: Arithmetic>(
     let losses = LossList::parity(shape);
     let mut scratch = [0; LONGEST];
     clear(parity);
-    absorb_held::<F>(
-        shape,
-        parity,
-        source,
-        shape.parity(),
-        shape.sources(),
-        &losses,
-    )?;
+    absorb_held::<F>(shape, parity, source, shape.parity(), &losses)?;
     rebuild::<F>(shape, &losses, parity, &mut scratch[0..p])
 }
 

@@ -7,16 +7,13 @@ ghost use Rattle.code.specs.Packets.{selected};
 
 use field::Arithmetic;
 use layout::shape::Shape;
+use std::array;
 
 // The matrix of the product by `a`: column j is a · α^j.
 fn columns<F: Arithmetic>(a: u32) -> [u32; 10]
     ensures { (j : ℕ) → j < F.Arithmetic.bits → slice_index result j ≡ F.Arithmetic.prod (a % 2 ^ F.Arithmetic.bits) (2 ^ j) }
 {
-    let mut columns = [0; 10];
-    for j in 0..F::width() {
-        columns[j as usize] = F::product(a, 1 << j);
-    }
-    columns
+    array::from_fn(|j| F::product(a, 1 << j))
 }
 
 // Adds `source` to `target`, word by word.

@@ -80,8 +80,8 @@ fn gap<F: Arithmetic>(nodes: &[u32; 32], j: usize, n: usize) -> u32
     ensures element { result < 2 ^ F.Arithmetic.bits }
 {
     let mut product = 1;
-    for s in j..n {
-        product = F::product(nodes[n] ^ nodes[s], product);
+    for node in &nodes[j..n] {
+        product = F::product(nodes[n] ^ *node, product);
     }
     product
 }
@@ -94,9 +94,7 @@ fn keep_first(shape: &Shape, sums: &mut [u32], n: usize)
     ensures { (prod : ℕ → ℕ → ℕ) → Copied shape.now prod n 0 sums.old sums.new }
 {
     let p = shape.packet();
-    for word in 0..p {
-        sums[n * p + word] = sums[word];
-    }
+    sums.copy_within(0..p, n * p);
 }
 
 // One backward step: finds packet `n`, the last that is not found yet, and takes it out of the sums before it.

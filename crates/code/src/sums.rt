@@ -58,18 +58,11 @@ pub fn absorb<F: Arithmetic>(
 
 // The first word that is not zero in the sums from `first` on: the sum, and the word in it.
 pub(crate) fn first_nonzero(shape: &Shape, sums: &[u32], first: usize) -> Option<(usize, usize)>
-    requires { Packets shape.now (parity_of shape.now) sums.now }
+    requires sums { Packets shape.now (parity_of shape.now) sums.now }
+    requires first { first ≤ parity_of shape.now }
     ensures { FirstNonzero shape.now sums.now first result }
 {
     let p = shape.packet();
-    let mut at = None;
-    'found: for sum in first..shape.parity() {
-        for word in 0..p {
-            if sums[sum * p + word] != 0 {
-                at = Some((sum, word));
-                break 'found;
-            }
-        }
-    }
-    at
+    let at = sums[first * p..].iter().position(|word| *word != 0)?;
+    Some((first + at / p, at % p))
 }

@@ -1,16 +1,20 @@
 -- Runs of packets that have the same words are the same runs.
-use Rattle.std.proofs.Common.{◌≡◌, ℕ, ◌+◌, ◌*◌, ◌/◌, ◌%◌, ◌<◌, List, ◌++◌, length, get_or, take, sym, ap, ◌∙◌, div-add-mod', arith}
+use Rattle.std.proofs.Common.{◌≡◌, ℕ, ◌+◌, ◌*◌, ◌/◌, ◌%◌, ◌<◌, List, ◌++◌, length, get_or, take, sym, ap, ◌∙◌, add-zero, div-add-mod', arith}
 use native.Mathlib.Decide.{dec_lt}
 use native.Mathlib.Nat.{min-le_left}
-use Rattle.std.proofs.lemmas.Nat.{mul-le, div_below, mod_below}
+use Rattle.std.proofs.lemmas.Nat.{mul-le, div_below, div-mul-add, mod_below}
 use Rattle.std.proofs.lemmas.List.{ext_get_or, get_or-take, get_or_past, get_or_append_left, length-take}
 use Rattle.layout.specs.declared.shape.Shape.{Shape}
-use Rattle.layout.specs.Sizes.{packet_of, Packets}
+use Rattle.layout.specs.Sizes.{packet_of, packets_in, Packets}
 use Rattle.layout.specs.Blocks.{block_at, ZeroRun}
 
 module _ (s : Shape) where
   packet_pos : 0 < packet_of s
   packet_pos = let h = mul-le 3 1 s.rows s.words s.field.0 s.sizes.2 in omega arith
+
+  -- a run of n packets has room for n
+  pub packets_are : (n : ℕ) (run : List ℕ) → Packets s n run → packets_in s run ≡ n
+  packets_are n run e = ap (λ k. k / packet_of s) e ∙ ap (λ k. k / packet_of s) (sym (add-zero _)) ∙ div-mul-add n (packet_of s) 0 packet_pos
 
   -- the place of a word of a packet, and back
   pub row_lt : (j : ℕ) → j < packet_of s → j / s.words < s.rows

@@ -1,5 +1,5 @@
 -- How long the runs of a shape are.
-use Rattle.std.specs.Prelude.{◌≡◌, ℕ, ◌-◌, ◌*◌, ◌<◌, List, length, slice_index}
+use Rattle.std.specs.Prelude.{◌≡◌, ℕ, ◌-◌, ◌*◌, ◌/◌, ◌<◌, List, length, slice_index}
 use Rattle.layout.specs.declared.shape.Shape.{Shape}
 use Rattle.layout.specs.declared.losses.LossList.{LossList}
 
@@ -10,6 +10,10 @@ parity_of s = s.positions - s.sources
 -- the words of a packet
 abbrev pub packet_of : Shape → ℕ
 packet_of s = s.rows * s.words
+
+-- how many packets a run has room for
+abbrev pub packets_in : Shape → List ℕ → ℕ
+packets_in s run = length run / packet_of s
 
 -- a run of just so many packets
 abbrev pub Packets : Shape → ℕ → List ℕ → Type 0

@@ -2,6 +2,7 @@ use Rattle.std.proofs.Math.Facts.{Fits-lt-pow}
 use Rattle.std.proofs.Common.{◌≡◌, ◌-◌, ◌≤◌, length, take, replicate, Ok, ◌∙◌, subst, arith}
 use Rattle.std.proofs.lemmas.List.{length-take-le}
 use Rattle.layout.specs.Sizes.{parity_of, packet_of, Packets}
+use Rattle.layout.proofs.Blocks.{packets_are}
 use Rattle.code.proofs.Passes.{rebuild_passes}
 use Rattle.code.specs.Held.{Summed}
 use Rattle.code.proofs.Encodes.{parity_below, source_sums, filled}
@@ -10,13 +11,13 @@ use Rattle.code.proofs.block.fill_parity.Goals as goal
 pub absorb_held-requires : goal.absorb_held-requires
 absorb_held-requires g c =
     let s = c.args.shape.now in
-    let v = c.sources.ensures.value in
+    let n = packets_are s s.sources c.args.source.now c.requires.source in
     let p = c.parity.ensures in
     let k = s.counts in
     record {
       width = c.requires.width;
       sums = c.clear.auto.run ∙ c.requires.parity;
-      run = rw v c.requires.source;
+      run = rw n c.requires.source;
       end = omega arith;
     }
 
@@ -38,7 +39,7 @@ returns g c =
     let size : Packets s (parity_of s) S = c.absorb_held.auto.sums ∙ c.clear.auto.run ∙ c.requires.parity in
     let summed : Summed s f.prod l (parity_of s) s.sources source c.clear.new.run S (Ok tt) =
     subst (λ n. Summed s f.prod l n s.sources source c.clear.new.run S (Ok tt)) c.parity.ensures
-    (subst (λ k. Summed s f.prod l c.parity.result k source c.clear.new.run S (Ok tt)) c.sources.ensures.value c.in_ok-absorb_held.ensures) in
+    (subst (λ k. Summed s f.prod l c.parity.result k source c.clear.new.run S (Ok tt)) (packets_are s s.sources source long) c.in_ok-absorb_held.ensures) in
     filled s f.prod l few ids source long f.bits S V _ c.rebuild.new.scratch (source_sums s f.prod l few ids source long c.clear.new.run S c.clear.ensures summed)
     (rebuild_passes f.bits s c.requires.width S size l _ (parity_below s f.prod l few ids source long) (omega arith) scratch)
     (c.rebuild.auto.sums ∙ size) (λ k. Fits-lt-pow (c.type_inv.parity k)) (λ k. Fits-lt-pow (c.type_inv.source k)) c.rebuild.result c.rebuild.ensures

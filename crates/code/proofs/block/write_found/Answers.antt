@@ -1,46 +1,80 @@
-use Rattle.std.proofs.Common.{◌≡◌, ◌<◌, sym, refl, ap, ◌∙◌, arith, rules}
-use Rattle.layout.specs.Sizes.{parity_of}
-use Rattle.layout.specs.Blocks.{block_at}
-use Rattle.layout.proofs.Places.{part_ends}
-use Rattle.layout.proofs.Parts.{part_length}
+use Rattle.std.proofs.Common.{◌≡◌, ◌<◌, ◌≤◌, [], ◌∷◌, length, get_or, sym, refl, ap, ◌∙◌, inl, inr, arith, rules, length-append, length-drop}
+use Rattle.layout.specs.Sizes.{parity_of, packet_of, lost}
+use Rattle.layout.specs.Made.{lost_at}
+use Rattle.layout.specs.Blocks.{block_at, packet_in}
 use Rattle.layout.proofs.Entries.{entry_read}
+use Rattle.code.proofs.Chunks.{item_turn, chunk_turn, chunks_done}
 use Rattle.code.proofs.Writes.{written_none, written_more}
 use Rattle.code.proofs.block.write_found.Goals as goal
 
-pub slice_bounds-write_packet-end : goal.slice_bounds-write_packet-end
-slice_bounds-write_packet-end c =
-    let e = c.positions-at-items.ensures.len in
-    let lt : c.loop-s.s < parity_of c.args.shape.now = let h = c.loop-s-test.true in let k = c.requires.count in omega arith in
-    let h = part_ends c.loop-s.s _ c.packet-p.result refl c.packet-p.ensures.value c.requires.sums lt in
-    search rules
+pub loop-at-init : goal.loop-at-init
+loop-at-init c = record {
+  places = search rules;
+  size = search rules;
+  packets = search rules;
+  within = omega arith;
+  written = written_none c.args.shape.now c.args.losses.now c.args.sums.now c.args.block.now;
+}
 
 pub write_packet-requires : goal.write_packet-requires
 write_packet-requires c =
-    let e = c.positions-at-items.ensures.len in
-    let listed : c.loop-s.s < c.args.losses.now.len = let h = c.loop-s-test.true in omega arith in
-    let lt : c.loop-s.s < parity_of c.args.shape.now = let k = c.requires.count in omega arith in
-    let fits = part_ends c.loop-s.s _ c.packet-p.result refl c.packet-p.ensures.value c.requires.sums lt in
+    let s = c.args.shape.now in
+    let l = c.args.losses.now in
+    let n = length c.loop-at.yielded in
+    let v = c.loop-at.invariant in
+    let (item, step) = c.in-Some.ensures.steps in
+    let some : 1 ≤ packet_of s = let b = c.packet.ensures in omega arith in
+    let whole : length (lost_at l) ≡ l.len = sym (ap length c.positions.ensures.value) ∙ c.positions.ensures.len in
+    let place = item_turn (lost_at l) n c.in-Some.at.now _ _ v.places item in
+    let lt : n < l.len = let h = place.lt in omega arith in
+    let at : c.in-Some.at.now ≡ lost l n = place.is ∙ sym (ap (λ z. get_or z n 0) c.positions.ensures.value) ∙ c.positions.ensures.places n lt in
     record {
-      block = c.loop-s.auto.block ∙ c.requires.block;
-      position = omega (arith, c.positions-at-items.ensures.places c.loop-s.s listed, c.requires.below c.loop-s.s listed);
-      packet = part_length c.args.sums.now c.loop-s.s c.packet-p.result fits ∙ c.packet-p.ensures.value;
+      block = c.loop-at.auto.block ∙ c.requires.block;
+      position = let h = c.requires.below n lt in omega arith;
+      packet = (chunk_turn (packet_of s) c.args.sums.now (parity_of s) n _ _ _ _ some c.requires.sums v.size v.packets step.1).long;
     }
 
-pub loop-s-init : goal.loop-s-init
-loop-s-init c = written_none _ _ _ _
-
-pub loop-s-preserved : goal.loop-s-preserved
-loop-s-preserved c =
+pub loop-at-preserved : goal.loop-at-preserved
+loop-at-preserved c =
     let s = c.args.shape.now in
-    let n = c.loop-s.s in
-    let listed : n < c.args.losses.now.len = let e = c.positions-at-items.ensures.len in let h = c.loop-s-test.true in omega arith in
-    let place = c.positions-at-items.ensures.places n listed in
-    written_more s c.args.losses.now c.args.sums.now _ n c.loop-s.block _ listed
-    (λ i k h l. ap (λ q. block_at s c.write_packet.new.block q i k) (sym place) ∙ c.write_packet.ensures.at i k h l
-    ∙ entry_read s n c.packet-p.result c.args.sums.now c.packet-p.ensures.value i k h l)
-    (λ q i k ne h l. c.write_packet.ensures.off q i k (λ z. ne (z ∙ place)) h l) c.loop-s.invariant
+    let l = c.args.losses.now in
+    let n = length c.loop-at.yielded in
+    let v = c.loop-at.invariant in
+    let (item, step) = c.in-Some.ensures.steps in
+    let some : 1 ≤ packet_of s = let b = c.packet.ensures in omega arith in
+    let whole : length (lost_at l) ≡ l.len = sym (ap length c.positions.ensures.value) ∙ c.positions.ensures.len in
+    let place = item_turn (lost_at l) n c.in-Some.at.now _ _ v.places item in
+    let lt : n < l.len = let h = place.lt in omega arith in
+    let at : c.in-Some.at.now ≡ lost l n = place.is ∙ sym (ap (λ z. get_or z n 0) c.positions.ensures.value) ∙ c.positions.ensures.places n lt in
+    let turn = chunk_turn (packet_of s) c.args.sums.now (parity_of s) n _ _ _ _ some c.requires.sums v.size v.packets step.1 in
+    rw (length-append c.loop-at.yielded ((c.in-Some.at, c.in-Some.packet) ∷ [])) record {
+      places = place.left;
+      size = step.0 ∙ v.size;
+      packets = turn.left;
+      within = omega arith;
+      written = written_more s l c.args.sums.now _ n c.loop-at.block _ lt
+          (λ i k h m. ap (λ q. block_at s c.write_packet.new.block q i k) (sym at) ∙ c.write_packet.ensures.at i k h m
+          ∙ ap (λ r. packet_in s.words r i k) turn.is ∙ entry_read s n (packet_of s) c.args.sums.now refl i k h m)
+          (λ q i k ne h m. c.write_packet.ensures.off q i k (λ z. ne (z ∙ at)) h m) v.written;
+    }
 
 pub returns : goal.returns
 returns c =
-    let all : c.loop-s.s ≡ c.args.losses.now.len = let e = c.positions-at-items.ensures.len in omega arith in
-    rw all at c.loop-s.invariant
+    let s = c.args.shape.now in
+    let l = c.args.losses.now in
+    let n = length c.loop-at.yielded in
+    let v = c.loop-at.invariant in
+    let some : 1 ≤ packet_of s = let b = c.packet.ensures in omega arith in
+    let all : n ≡ l.len = elim c.in-None.ensures.steps [
+      | inl a ↦
+          let whole : length (lost_at l) ≡ l.len = sym (ap length c.positions.ensures.value) ∙ c.positions.ensures.len in
+          let e = sym (length-drop n (lost_at l)) ∙ ap length (sym v.places) ∙ a.1.0 in
+          let w = v.within in
+          omega arith
+      | inr b ↦
+          let e = chunks_done (packet_of s) c.args.sums.now (parity_of s) n some c.requires.sums (let w = v.within in let k = c.requires.count in omega arith) (ap length (sym v.packets) ∙ b.1.1.0) in
+          let w = v.within in
+          let k = c.requires.count in
+          omega arith
+    ] in
+    rw all at v.written

@@ -1,39 +1,43 @@
-use Rattle.std.proofs.Common.{◌≡◌, suc, ◌+◌, ◌-◌, ◌^◌, ◌<◌, sym, ap, ◌∙◌, ap₂, mod-eq_of_lt, arith}
+use Rattle.std.proofs.Common.{◌≡◌, ℕ, ◌+◌, ◌-◌, ◌%◌, ◌^◌, ◌<◌, List, length, drop, get_or, sym, refl, ap, ◌∙◌, ap₂, add-one, mod-eq_of_lt, arith, length-drop}
 use lib.Bits.{bit_xor, xor_lt}
+use borrow.Rule.Slice.PartMut.{mid_of}
+use Rattle.std.proofs.lemmas.List.{get_or-take, get_or-drop, length-take-le}
 use Rattle.code.specs.Solving.{node_at, gap_of}
 use Rattle.code.proofs.Backs.{gap_lt}
 use Rattle.code.proofs.solver.gap.Goals as goal
 
-pub loop-s-init : goal.loop-s-init
-unfolding gap_of
-loop-s-init g c =
-    let none : c.args.j - c.args.j ≡ 0 = omega arith in
-    sym (ap (λ k. gap_of g.F.Arithmetic.prod (node_at c.args.nodes.now) c.args.j k (node_at c.args.nodes.now c.args.n)) none)
+mid_length : (nodes : List ℕ) (j n : ℕ) → length nodes ≡ 32 → n < 32 → length (mid_of j (n - j) nodes) ≡ n - j
+mid_length nodes j n long lt = length-take-le (n - j) (drop j nodes) (let e = length-drop j nodes in omega arith)
 
-pub loop-s-preserved : goal.loop-s-preserved
+pub loop-node-init : goal.loop-node-init
 unfolding gap_of
-loop-s-preserved g c =
+loop-node-init g c = refl
+
+pub loop-node-preserved : goal.loop-node-preserved
+unfolding gap_of
+loop-node-preserved g c =
     let f = g.F.Arithmetic in
     let laws = g.met.F.Arithmetic.field in
-    let x = node_at c.args.nodes.now in
+    let nodes = c.args.nodes.now in
+    let x = node_at nodes in
     let j = c.args.j in
-    let s = c.loop-s.s in
+    let k = c.loop-node.node-index in
     let y = x c.args.n in
     let ox = c.requires.elements in
-    let next : s + 1 - j ≡ suc (s - j) = omega arith in
-    let here : j + (s - j) ≡ s = omega arith in
-    let lt : c.loop-s.product < 2 ^ f.bits = rw c.loop-s.invariant (gap_lt laws x ox j (s - j) y (ox c.args.n)) in
+    let whole = mid_length nodes j c.args.n c.told-nodes c.requires.within in
+    let here : get_or (mid_of j (c.args.n - j) nodes) k 0 ≡ x (j + k) = get_or-take (c.args.n - j) _ k 0 (omega arith) ∙ get_or-drop j nodes k 0 in
+    let lt : c.loop-node.product < 2 ^ f.bits = rw c.loop-node.invariant (gap_lt laws x ox j k y (ox c.args.n)) in
     c.product-product.ensures
-    ∙ ap₂ f.prod (mod-eq_of_lt (xor_lt f.bits y (x s) (ox c.args.n) (ox s)) ∙ ap (λ k. bit_xor y (x k)) (sym here)) (mod-eq_of_lt lt ∙ c.loop-s.invariant)
-    ∙ sym (ap (λ k. gap_of f.prod x j k y) next)
+    ∙ ap₂ f.prod (ap (λ z. bit_xor y z % 2 ^ f.bits) here ∙ mod-eq_of_lt (xor_lt f.bits y (x (j + k)) (ox c.args.n) (ox (j + k)))) (mod-eq_of_lt lt ∙ c.loop-node.invariant)
+    ∙ sym (ap (λ z. gap_of f.prod x j z y) (add-one k))
 
 pub returns : goal.returns
 returns g c =
     let f = g.F.Arithmetic in
     let x = node_at c.args.nodes.now in
     let ox = c.requires.elements in
-    let all : c.loop-s.s ≡ c.args.n = let h = c.loop-s.auto.s-end c.requires.order in omega arith in
+    let all : c.loop-node.node-index ≡ c.args.n - c.args.j = let whole = mid_length c.args.nodes.now c.args.j c.args.n c.told-nodes c.requires.within in omega arith in
     record {
-      value = rw all at c.loop-s.invariant;
-      element = rw c.loop-s.invariant (gap_lt g.met.F.Arithmetic.field x ox c.args.j (c.loop-s.s - c.args.j) (x c.args.n) (ox c.args.n));
+      value = rw all at c.loop-node.invariant;
+      element = rw c.loop-node.invariant (gap_lt g.met.F.Arithmetic.field x ox c.args.j c.loop-node.node-index (x c.args.n) (ox c.args.n));
     }

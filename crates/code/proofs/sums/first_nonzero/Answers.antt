@@ -1,18 +1,21 @@
-use Rattle.std.proofs.Common.{◌+◌, ◌*◌, get_or, ap, ◌∙◌, arith}
-use native.Mathlib.Decide.{ℕ_discrete}
-use Rattle.layout.specs.Sizes.{packet_of}
-use Rattle.layout.proofs.Places.{part_word}
+use Rattle.std.proofs.Common.{◌≡◌, ◌≢◌, ◌*◌, drop, ◌∙◌, rules}
+use borrow.Author.Tests.{tests}
+use Rattle.std.proofs.lemmas.List.{take_rest}
+use Rattle.std.proofs.lemmas.Iterator.{IsFirst-from_position, YieldsList-from_slice}
+use Rattle.code.proofs.Nonzero.{no_nonzero, first_at}
 use Rattle.code.proofs.sums.first_nonzero.Goals as goal
 
-pub bounds-sums-sum : goal.bounds-sums-sum
-bounds-sums-sum c =
-    part_word c.found.sum c.loop-word.word _ _ c.parity-sum-end.ensures c.packet-p.ensures.value c.requires (omega arith) (omega arith)
+pub returns-in_err-at : goal.returns-in_err-at
+returns-in_err-at c =
+    let v = c.packet-p.ensures in
+    let rest = drop (c.args.first * c.packet-p.result) c.args.sums.now in
+    let found = IsFirst-from_position {all = rest} _ _ _ (λ x. x ≢ 0) (λ x. x ≡ 0) c.position.ensures.ran (YieldsList-from_slice rest (c.iter.ensures.rest ∙ take_rest c.args.sums.now (c.args.first * c.packet-p.result))) (λ x q k. search (rules, tests)) (λ x q k. search (rules, tests)) in
+    rw c.from_residual.ensures (no_nonzero c.args.shape.now c.args.sums.now c.args.first c.packet-p.result v.value v.bounds.0 c.requires.sums c.requires.first (rw c.in_err-at.was at found))
 
-pub found-preserved : goal.found-preserved
-found-preserved c = (
-  λ μ j f l k. elim (ℕ_discrete μ c.found.sum) [
-    | yes q ↦ ap (λ n. get_or c.args.sums.now (n * packet_of c.args.shape.now + j) 0) q ∙ c.loop-word.invariant.1 j (let e = c.packet-p.ensures.value in omega arith)
-    | no q ↦ c.found.invariant.0 μ j f (omega arith) k
-  ],
-  c.loop-word.invariant.2,
-)
+pub returns : goal.returns
+returns c =
+    let v = c.packet-p.ensures in
+    let rest = drop (c.args.first * c.packet-p.result) c.args.sums.now in
+    let found = IsFirst-from_position {all = rest} _ _ _ (λ x. x ≢ 0) (λ x. x ≡ 0) c.position.ensures.ran (YieldsList-from_slice rest (c.iter.ensures.rest ∙ take_rest c.args.sums.now (c.args.first * c.packet-p.result))) (λ x q k. search (rules, tests)) (λ x q k. search (rules, tests)) in
+    let (lt, here, left) = rw c.in_ok-at.was at found in
+    first_at c.args.shape.now c.args.sums.now c.args.first c.packet-p.result v.value v.bounds.0 c.requires.sums c.requires.first c.in_ok-at.at lt here left
