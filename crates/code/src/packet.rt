@@ -21,33 +21,34 @@ pub(crate) fn add_words(target: &mut [u32], source: &[u32])
     requires { length target.old ≡ length source.now }
     ensures { (c : ℕ) → c < length source.now → slice_index target.new c ≡ bit_xor (slice_index target.old c) (slice_index source.now c) }
 {
+    // By index: of words that `iter_mut().zip(..)` wrote to, nothing is known afterwards.
     for (i, word) in source.iter().enumerate() {
         target[i] ^= *word;
     }
 }
 
 // Adds to a row those rows of the packet `source` that row `i` of the matrix selects.
-fn add_selected(columns: [u32; 10], i: usize, shape: &Shape, source: &[u32], row: &mut [u32])
+fn add_selected(columns: &[u32; 10], i: usize, shape: &Shape, source: &[u32], row: &mut [u32])
     requires row { length row.old ≡ shape.now.words }
     requires source { length source.now ≡ packet_of shape.now }
     requires bit { i < shape.now.rows }
-    ensures { (c : ℕ) → c < shape.now.words → slice_index row.new c ≡ bit_xor (slice_index row.old c) (selected shape.now.rows columns i (packet_in shape.now.words source.now) c) }
+    ensures { (c : ℕ) → c < shape.now.words → slice_index row.new c ≡ bit_xor (slice_index row.old c) (selected shape.now.rows columns.now i (packet_in shape.now.words source.now) c) }
 {
-    let w = shape.words();
-    for j in 0..shape.rows() {
-        if (columns[j] >> i) & 1 == 1 {
-            add_words(row, &source[j * w..j * w + w]);
+    for (column, words) in columns.iter().zip(source.chunks(shape.words())) {
+        if (*column >> i) & 1 == 1 {
+            add_words(row, words);
         }
     }
 }
 
 // Adds the matrix times the packet `source` to the packet `target`.
-fn add_product(columns: [u32; 10], shape: &Shape, source: &[u32], target: &mut [u32])
+fn add_product(columns: &[u32; 10], shape: &Shape, source: &[u32], target: &mut [u32])
     requires target { length target.old ≡ packet_of shape.now }
     requires source { length source.now ≡ packet_of shape.now }
-    ensures { (i c : ℕ) → i < shape.now.rows → c < shape.now.words → packet_in shape.now.words target.new i c ≡ bit_xor (packet_in shape.now.words target.old i c) (selected shape.now.rows columns i (packet_in shape.now.words source.now) c) }
+    ensures { (i c : ℕ) → i < shape.now.rows → c < shape.now.words → packet_in shape.now.words target.new i c ≡ bit_xor (packet_in shape.now.words target.old i c) (selected shape.now.rows columns.now i (packet_in shape.now.words source.now) c) }
 {
     let w = shape.words();
+    // By index: of a run that `chunks_mut` lent, nothing is known afterwards.
     for i in 0..shape.rows() {
         add_selected(columns, i, shape, source, &mut target[i * w..i * w + w]);
     }
@@ -60,5 +61,5 @@ pub(crate) fn add_times<F: Arithmetic>(a: u32, shape: &Shape, source: &[u32], ta
     requires source { length source.now ≡ packet_of shape.now }
     ensures { SamePacket (code_of shape.now F.Arithmetic.prod) (packet_in shape.now.words target.new) (λ i c. bit_xor (packet_in shape.now.words target.old i c) (scaled (code_of shape.now F.Arithmetic.prod) (a % 2 ^ F.Arithmetic.bits) (packet_in shape.now.words source.now) i c)) }
 {
-    add_product(columns::<F>(a), shape, source, target);
+    add_product(&columns::<F>(a), shape, source, target);
 }

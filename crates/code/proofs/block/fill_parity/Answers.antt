@@ -1,5 +1,5 @@
 use Rattle.std.proofs.Math.Facts.{Fits-lt-pow}
-use Rattle.std.proofs.Common.{◌≡◌, ◌-◌, ◌≤◌, length, take, replicate, Ok, ◌∙◌, subst, arith}
+use Rattle.std.proofs.Common.{◌≡◌, ℕ, ◌-◌, ◌≤◌, List, length, take, replicate, Ok, ◌∙◌, subst, arith}
 use Rattle.std.proofs.lemmas.List.{length-take-le}
 use Rattle.layout.specs.Sizes.{parity_of, packet_of, Packets}
 use Rattle.layout.proofs.Blocks.{packets_are}
@@ -35,7 +35,8 @@ returns g c =
     let p = c.packet-p.result in
     let room : p - 0 ≤ 160 = let b = c.packet-p.ensures.bounds in omega arith in
     let whole : p - 0 ≡ p = omega arith in
-    let scratch : length (take (p - 0) (replicate 160 0)) ≡ packet_of s = length-take-le (p - 0) (replicate 160 0) room ∙ whole ∙ c.packet-p.ensures.value in
+    let zeros : List ℕ = replicate 160 0 in
+    let scratch : length (take (p - 0) zeros) ≡ packet_of s = length-take-le (p - 0) zeros room ∙ whole ∙ c.packet-p.ensures.value in
     let size : Packets s (parity_of s) S = c.absorb_held.auto.sums ∙ c.clear.auto.run ∙ c.requires.parity in
     let summed : Summed s f.prod l (parity_of s) s.sources source c.clear.new.run S (Ok tt) =
     subst (λ n. Summed s f.prod l n s.sources source c.clear.new.run S (Ok tt)) c.parity.ensures

@@ -2,7 +2,7 @@ use Rattle.std.proofs.Common.{◌≡◌, ℕ, ◌<◌, ◌≤◌, length}
 use Rattle.galois.specs.Field.{power}
 use Rattle.layout.specs.Sizes.{lost}
 use Rattle.code.specs.Solving.{node_at}
-use Rattle.code.proofs.solver.nodes.Given as goal
+use Rattle.code.proofs.solver.Solver.new.Given as goal
 
 abbrev pub invariant-loop-s : goal.invariant-loop-s
 invariant-loop-s g l =

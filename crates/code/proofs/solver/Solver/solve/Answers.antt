@@ -4,7 +4,7 @@ use native.Mathlib.Decide.{dec_lt}
 use Rattle.code.specs.Solving.{node_at}
 use Rattle.code.proofs.Stages.{laws_of}
 use Rattle.code.proofs.Backs.{found_starts, found_ends}
-use Rattle.code.proofs.solver.solve.Goals as goal
+use Rattle.code.proofs.solver.Solver.solve.Goals as goal
 
 pub loop-n-init : goal.loop-n-init
 loop-n-init g c = (λ I. Iff.rfl, λ μ h k i b p q. refl)
@@ -18,11 +18,11 @@ loop-n-preserved g c = (
 pub returns : goal.returns
 returns g c =
     let f = g.F.Arithmetic in
-    let s = c.args.shape.now in
-    let x = c.args.nodes.now in
-    let t = c.args.count in
-    let laws = laws_of s.rows f.bits f.prod f.inv c.requires.width g.met.F.Arithmetic.field in
-    let ox : (k : ℕ) → node_at x k < 2 ^ s.rows = λ k. rw c.requires.width (c.requires.elements k) in
+    let s = c.args.self.now.shape.now in
+    let x = c.args.self.now.nodes in
+    let t = c.args.self.now.count in
+    let laws = laws_of s.rows f.bits f.prod f.inv c.args.self.now.width g.met.F.Arithmetic.field in
+    let ox : (k : ℕ) → node_at x k < 2 ^ s.rows = λ k. rw c.args.self.now.width (c.args.self.now.elements k) in
     record {
       solved = λ I. elim (dec_lt 0 t) [
         | yes some ↦

@@ -4,7 +4,7 @@ use borrow.Rule.Slice.PartMut.{mid_of}
 use Rattle.std.proofs.lemmas.List.{get_or-take, get_or-drop, length-take-le}
 use Rattle.code.specs.Solving.{node_at, gap_of}
 use Rattle.code.proofs.Backs.{gap_lt}
-use Rattle.code.proofs.solver.gap.Goals as goal
+use Rattle.code.proofs.solver.Solver.gap.Goals as goal
 
 mid_length : (nodes : List ℕ) (j n : ℕ) → length nodes ≡ 32 → n < 32 → length (mid_of j (n - j) nodes) ≡ n - j
 mid_length nodes j n long lt = length-take-le (n - j) (drop j nodes) (let e = length-drop j nodes in omega arith)
@@ -18,13 +18,13 @@ unfolding gap_of
 loop-node-preserved g c =
     let f = g.F.Arithmetic in
     let laws = g.met.F.Arithmetic.field in
-    let nodes = c.args.nodes.now in
+    let nodes = c.args.self.now.nodes in
     let x = node_at nodes in
     let j = c.args.j in
     let k = c.loop-node.node-index in
     let y = x c.args.n in
-    let ox = c.requires.elements in
-    let whole = mid_length nodes j c.args.n c.told-nodes c.requires.within in
+    let ox = c.args.self.now.elements in
+    let whole = mid_length nodes j c.args.n c.told-self (let w = c.requires.within in let m = c.args.self.now.few in let k = c.args.self.now.shape.now.counts.2 in omega arith) in
     let here : get_or (mid_of j (c.args.n - j) nodes) k 0 ≡ x (j + k) = get_or-take (c.args.n - j) _ k 0 (omega arith) ∙ get_or-drop j nodes k 0 in
     let lt : c.loop-node.product < 2 ^ f.bits = rw c.loop-node.invariant (gap_lt laws x ox j k y (ox c.args.n)) in
     c.product-product.ensures
@@ -34,9 +34,9 @@ loop-node-preserved g c =
 pub returns : goal.returns
 returns g c =
     let f = g.F.Arithmetic in
-    let x = node_at c.args.nodes.now in
-    let ox = c.requires.elements in
-    let all : c.loop-node.node-index ≡ c.args.n - c.args.j = let whole = mid_length c.args.nodes.now c.args.j c.args.n c.told-nodes c.requires.within in omega arith in
+    let x = node_at c.args.self.now.nodes in
+    let ox = c.args.self.now.elements in
+    let all : c.loop-node.node-index ≡ c.args.n - c.args.j = let whole = mid_length c.args.self.now.nodes c.args.j c.args.n c.told-self (let w = c.requires.within in let m = c.args.self.now.few in let k = c.args.self.now.shape.now.counts.2 in omega arith) in omega arith in
     record {
       value = rw all at c.loop-node.invariant;
       element = rw c.loop-node.invariant (gap_lt g.met.F.Arithmetic.field x ox c.args.j c.loop-node.node-index (x c.args.n) (ox c.args.n));

@@ -6,7 +6,7 @@ use Rattle.layout.specs.Blocks.{code_of, packet_in, block_at}
 use Rattle.layout.proofs.Places.{part_ends}
 use Rattle.layout.proofs.Parts.{part_length}
 use Rattle.layout.proofs.Entries.{entry_read, entry_written, entry_kept}
-use Rattle.code.proofs.solver.add_entry.Goals as goal
+use Rattle.code.proofs.solver.Solver.add_entry.Goals as goal
 
 pub slice_bounds-copy_from_slice-end : goal.slice_bounds-copy_from_slice-end
 slice_bounds-copy_from_slice-end g c =
@@ -20,7 +20,7 @@ slice_bounds-add_times-end g c =
 
 pub returns : goal.returns
 returns g c =
-    let s = c.args.shape.now in
+    let s = c.args.self.now.shape.now in
     let C = code_of s g.F.Arithmetic.prod in
     let v = c.packet-p.result in
     let t = c.args.sums.now in

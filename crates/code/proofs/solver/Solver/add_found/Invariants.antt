@@ -1,0 +1,7 @@
+use Rattle.std.proofs.Common.{◌≡◌, length}
+use Rattle.code.specs.Found.{FoundAdded}
+use Rattle.code.proofs.solver.Solver.add_found.Given as goal
+
+abbrev pub invariant-loop-s : goal.invariant-loop-s
+invariant-loop-s g l =
+    (length l.sums ≡ length l.initial.sums) × FoundAdded l.self.shape.now g.F.Arithmetic.prod l.self.nodes l.self.count l.s l.initial.sums l.sums
