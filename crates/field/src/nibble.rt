@@ -27,11 +27,11 @@ impl Logarithms for NibbleTables {
         WIDTH
     }
 
-    fn power(exponent: u32) -> u32 {
-        POWERS[(exponent % 15) as usize] as u32
+    fn powers() -> &'static [u8] {
+        &POWERS
     }
 
-    fn logarithm(a: u32) -> u32 {
-        LOGARITHMS[(a & 15) as usize] as u32
+    fn logarithms() -> &'static [u8] {
+        &LOGARITHMS
     }
 }

@@ -59,11 +59,11 @@ impl Logarithms for OctetTables {
         WIDTH
     }
 
-    fn power(exponent: u32) -> u32 {
-        POWERS[(exponent % 255) as usize] as u32
+    fn powers() -> &'static [u8] {
+        POWERS
     }
 
-    fn logarithm(a: u32) -> u32 {
-        LOGARITHMS[(a & 255) as usize] as u32
+    fn logarithms() -> &'static [u8] {
+        LOGARITHMS
     }
 }

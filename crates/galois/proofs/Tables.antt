@@ -1,35 +1,15 @@
--- The tables of powers and logarithms that a width and a polynomial give, one test of them that is computed, and what it says.
+-- One test of the tables that a width and a polynomial give, which is computed, and what it says.
 use mathlib.Core.Path.{◌≡◌, refl, sym, ap, ◌∙◌, subst}
 use mathlib.Core.Bool.{Bool, true}
-use mathlib.Core.List.{List, [], ◌∷◌}
-use Prim.Native.Nat.{ℕ, zero, suc, ◌-◌, ◌/◌, ◌%◌, ◌^◌, ◌<◌, ◌≤◌}
-use native.Mathlib.Nat.{le_of_suc-le-suc, not-suc-le-zero, mod-lt}
-use native.Mathlib.Decide.{ℕ_discrete}
-use native.Mathlib.Omega.{arith}
-use lib.Bits.{bit_and, and_mask}
-use lib.Pow.{pow_pos, pow_mono}
+use mathlib.Core.List.{List}
+use Prim.Native.Nat.{ℕ, zero, suc, ◌-◌, ◌/◌, ◌^◌, ◌<◌, ◌≤◌}
+use native.Mathlib.Nat.{le_of_suc-le-suc, not-suc-le-zero}
 use lib.Dec.{T, eqb, ltb, eqb→eq, ltb→lt}
-use lib.ListN.{length, get_or, set, replicate}
+use lib.ListN.{length, get_or}
 use Rattle.galois.specs.Field.{double, steps, Primitive}
+use Rattle.galois.specs.Tables.{powers_from, powers, logarithms}
 use Rattle.galois.proofs.Every.{both, both_left, both_right, every, at}
 use Rattle.galois.proofs.Linear.{steps_double}
-use Rattle.galois.proofs.Laws.{steps_mod}
-
--- x, α·x, .., n of them
-unfoldable pub powers_from : ℕ → ℕ → ℕ → ℕ → List ℕ
-powers_from m p zero x = []
-powers_from m p (suc n) x = x ∷ powers_from m p n (double m p x)
-
-unfoldable pub powers : ℕ → ℕ → List ℕ
-powers m p = powers_from m p (2 ^ m - 1) 1
-
--- the table with i, i + 1, .. entered at the elements of the list
-unfoldable pub entered : List ℕ → ℕ → List ℕ → List ℕ
-entered [] i table = table
-entered (x ∷ xs) i table = entered xs (suc i) (set table x i)
-
-unfoldable pub logarithms : ℕ → ℕ → List ℕ
-logarithms m p = entered (powers m p) 0 (replicate (2 ^ m) 0)
 
 abbrev pub logged : List ℕ → ℕ → ℕ → Bool
 logged log i e = eqb (get_or log e 0) i
@@ -56,7 +36,7 @@ pub length_powers : (m p : ℕ) → length (powers m p) ≡ 2 ^ m - 1
 unfolding powers
 length_powers m p = length_powers_from m p (2 ^ m - 1) 1
 
-powers_from_at : (m p n x : ℕ) → p / 2 ^ m ≡ 1 → (i : ℕ) → i < n → get_or (powers_from m p n x) i 0 ≡ steps m p i x
+pub powers_from_at : (m p n x : ℕ) → p / 2 ^ m ≡ 1 → (i : ℕ) → i < n → get_or (powers_from m p n x) i 0 ≡ steps m p i x
 unfolding powers_from steps
 powers_from_at m p zero x top i h = absurd (not-suc-le-zero h)
 powers_from_at m p (suc n) x top zero h = refl
@@ -135,25 +115,3 @@ module _ (m p : ℕ) (passed : T (generates m p)) where
     log_is = log_is;
     log_of = log_of;
   }
-
-  some : 0 < 2 ^ m - 1
-  some = let h : 8 ≤ 2 ^ m = pow_mono {i = 3} parts.wide in omega arith
-
-  -- what a read of the table of powers answers
-  pub power_read : (e : ℕ) → get_or (powers m p) (e % (2 ^ m - 1)) 0 ≡ steps m p e 1
-  power_read e = power_at (e % (2 ^ m - 1)) (mod-lt e some) ∙ steps_mod m p primitive e
-
-  -- what a read of the table of logarithms answers
-  pub log_read_lt : (a : ℕ) → get_or (logarithms m p) (bit_and a (2 ^ m - 1)) 0 < 2 ^ m - 1
-  log_read_lt a =
-      subst (λ (x : ℕ). get_or (logarithms m p) x 0 < 2 ^ m - 1) (sym (and_mask a m))
-      (elim (ℕ_discrete (a % 2 ^ m) 0) [
-        | yes q ↦ rw (q, parts.zeroth) some
-        | no q ↦ log_lt (a % 2 ^ m) (omega arith) (mod-lt a (pow_pos m))
-      ])
-
-  pub log_read : (a : ℕ) → 0 < a % 2 ^ m → steps m p (get_or (logarithms m p) (bit_and a (2 ^ m - 1)) 0) 1 ≡ a % 2 ^ m
-  log_read a z = ap (λ (x : ℕ). steps m p (get_or (logarithms m p) x 0) 1) (and_mask a m) ∙ log_is (a % 2 ^ m) z (mod-lt a (pow_pos m))
-
-  pub log_read_zero : (a : ℕ) → a % 2 ^ m ≡ 0 → get_or (logarithms m p) (bit_and a (2 ^ m - 1)) 0 ≡ 0
-  log_read_zero a z = ap (λ (x : ℕ). get_or (logarithms m p) x 0) (and_mask a m ∙ z) ∙ parts.zeroth
