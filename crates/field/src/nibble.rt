@@ -16,6 +16,7 @@ pub struct NibbleTables;
 
 pub type Nibble = Tabled<NibbleTables>;
 
+#[tactic(auto, unfolding(galois::specs::Field::double, galois::specs::Tables::powers_from, galois::specs::Tables::powers, galois::specs::Tables::entered, galois::specs::Tables::logarithms))]
 impl Logarithms for NibbleTables {
     ghost bits = { 4 };
 

@@ -48,6 +48,7 @@ pub struct OctetTables;
 
 pub type TabledOctet = Tabled<OctetTables>;
 
+#[tactic(auto, unfolding(galois::specs::Field::double, galois::specs::Tables::powers_from, galois::specs::Tables::powers, galois::specs::Tables::entered, galois::specs::Tables::logarithms))]
 impl Logarithms for OctetTables {
     ghost bits = { 8 };
 

@@ -49,12 +49,18 @@ pub struct Tabled<T> {
     pub tables: T,
 }
 
-// The element with every bit set, which is also the number of nonzero elements.
-fn ones(width: u32) -> u32
-    requires { width < 32 }
-    ensures { result ≡ 2 ^ width - 1 }
+// The element that `a` stands for.
+fn element<T: Logarithms>(a: u32) -> u32
+    ensures { result ≡ a % 2 ^ T.Logarithms.bits }
 {
-    (1 << width) - 1
+    a % (1 << T::width())
+}
+
+// The number of nonzero elements.
+fn order<T: Logarithms>() -> u32
+    ensures { result ≡ 2 ^ T.Logarithms.bits - 1 }
+{
+    (1 << T::width()) - 1
 }
 
 impl<T: Logarithms> Arithmetic for Tabled<T> {
@@ -71,16 +77,14 @@ impl<T: Logarithms> Arithmetic for Tabled<T> {
     }
 
     fn product(a: u32, b: u32) -> u32 {
-        let mask = ones(T::width());
-        if a & mask == 0 || b & mask == 0 {
+        if element::<T>(a) == 0 || element::<T>(b) == 0 {
             return 0;
         }
         T::power(T::logarithm(a) + T::logarithm(b))
     }
 
     fn inverse(a: u32) -> u32 {
-        let order = ones(T::width());
-        let reciprocal = T::power(order - T::logarithm(a));
-        if a & order == 0 { 0 } else { reciprocal }
+        let reciprocal = T::power(order::<T>() - T::logarithm(a));
+        if element::<T>(a) == 0 { 0 } else { reciprocal }
     }
 }
