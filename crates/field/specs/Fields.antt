@@ -1,7 +1,8 @@
 -- Under the two polynomials of this crate α goes through every nonzero element: each is one test that is computed.
 use Rattle.std.specs.Prelude.{T}
 use Rattle.galois.specs.Field.{double, steps, Primitive}
-use Rattle.galois.proofs.Tables.{generates, powers, powers_from, logarithms, entered, primitive}
+use Rattle.galois.specs.Tables.{powers, powers_from, logarithms, entered}
+use Rattle.galois.proofs.Tables.{generates, primitive}
 
 pub nibble_passes : T (generates 4 0x13)
 unfolding generates powers powers_from logarithms entered steps double

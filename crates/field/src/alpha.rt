@@ -1,28 +1,40 @@
-// Which field each arithmetic is: the laws hold under any primitive polynomial, so α^m is stated here.
-ghost use Rattle.std.specs.Prelude.{◌≡◌};
+// Which field an arithmetic is: the laws hold under any primitive polynomial, so the polynomial is stated here.
+ghost use Rattle.std.specs.Prelude.{◌≡◌, ℕ, ◌%◌, ◌^◌, ◌<◌, refl};
+ghost use Rattle.galois.specs.Field.{Primitive, product};
+ghost use Rattle.field.specs.Fields.{octet};
 
 use crate::Arithmetic;
-use crate::nibble::Nibble;
-use crate::octet::TabledOctet;
 use crate::stepped::SteppedOctet;
+use crate::tabled::{Logarithms, Tabled};
 
-// α^4 = α + 1
-pub fn nibble_alpha_4() -> u32
-    ensures { result ≡ 0x3 }
-{
-    Nibble::product(2, 8)
+// An arithmetic whose elements are polynomials in α, with a product that is reduced by the polynomial `poly`.
+pub trait PolynomialField: Arithmetic {
+    ghost poly: { ℕ };
+
+    ghost generates: { Primitive Self.Arithmetic.bits poly };
+
+    ghost reduces: { (a b : ℕ) → Self.Arithmetic.prod a b ≡ product Self.Arithmetic.bits poly a b };
 }
 
-// α^8 = α^4 + α^3 + α^2 + 1
-pub fn stepped_octet_alpha_8() -> u32
-    ensures { result ≡ 0x1D }
-{
-    SteppedOctet::product(2, 128)
+impl PolynomialField for SteppedOctet {
+    ghost poly = { 0x11D };
+
+    ghost generates = { octet };
+
+    ghost reduces = { λ a b. refl };
 }
 
-// α^8 = α^4 + α^3 + α^2 + 1
-pub fn tabled_octet_alpha_8() -> u32
-    ensures { result ≡ 0x1D }
+impl<T: Logarithms> PolynomialField for Tabled<T> {
+    ghost poly = { T.Logarithms.poly };
+
+    ghost generates = { T.Logarithms.generates };
+
+    ghost reduces = { λ a b. refl };
+}
+
+// α^m by lower powers, in a field of 2^m elements: 0x3 under 0x13, where α^4 = α + 1, and 0x1D under 0x11D.
+pub fn alpha_to_width<F: PolynomialField>() -> u32
+    ensures { result ≡ F.poly % 2 ^ F.bits }
 {
-    TabledOctet::product(2, 128)
+    F::product(2, 1 << (F::width() - 1))
 }

@@ -16,6 +16,7 @@ pub struct NibbleTables;
 
 pub type Nibble = Tabled<NibbleTables>;
 
+#[tactic(auto, unfolding(galois::specs::Field::double, galois::specs::Tables::powers_from, galois::specs::Tables::powers, galois::specs::Tables::entered, galois::specs::Tables::logarithms))]
 impl Logarithms for NibbleTables {
     ghost bits = { 4 };
 
@@ -27,11 +28,11 @@ impl Logarithms for NibbleTables {
         WIDTH
     }
 
-    fn power(exponent: u32) -> u32 {
-        POWERS[(exponent % 15) as usize] as u32
+    fn powers() -> &'static [u8] {
+        &POWERS
     }
 
-    fn logarithm(a: u32) -> u32 {
-        LOGARITHMS[(a & 15) as usize] as u32
+    fn logarithms() -> &'static [u8] {
+        &LOGARITHMS
     }
 }

@@ -48,6 +48,7 @@ pub struct OctetTables;
 
 pub type TabledOctet = Tabled<OctetTables>;
 
+#[tactic(auto, unfolding(galois::specs::Field::double, galois::specs::Tables::powers_from, galois::specs::Tables::powers, galois::specs::Tables::entered, galois::specs::Tables::logarithms))]
 impl Logarithms for OctetTables {
     ghost bits = { 8 };
 
@@ -59,11 +60,11 @@ impl Logarithms for OctetTables {
         WIDTH
     }
 
-    fn power(exponent: u32) -> u32 {
-        POWERS[(exponent % 255) as usize] as u32
+    fn powers() -> &'static [u8] {
+        POWERS
     }
 
-    fn logarithm(a: u32) -> u32 {
-        LOGARITHMS[(a & 255) as usize] as u32
+    fn logarithms() -> &'static [u8] {
+        LOGARITHMS
     }
 }

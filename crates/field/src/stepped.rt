@@ -57,7 +57,7 @@ impl Arithmetic for SteppedOctet {
         by_steps(a, b)
     }
 
-    // a^254: by a^2 · a^4 · .. · a^128.
+    // a^254: by a^2 · a^4 · .. · a^128. `raise` over this arithmetic would lead back to this function, which gets no proof.
     fn inverse(a: u32) -> u32 {
         let mut square = a & 255;
         let mut inverse = 1;

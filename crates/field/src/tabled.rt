@@ -1,6 +1,7 @@
 // A field by tables of powers and logarithms.
 ghost use Rattle.std.specs.Prelude.{◌≡◌, ℕ, ◌-◌, ◌%◌, ◌^◌, ◌<◌};
 ghost use Rattle.galois.specs.Field.{Primitive, steps, product, inverse};
+ghost use Rattle.galois.specs.Tables.{powers, logarithms};
 ghost use Rattle.galois.proofs.Laws.{laws};
 
 use crate::Arithmetic;
@@ -14,15 +15,31 @@ pub trait Logarithms {
     fn width() -> u32
         ensures { result ≡ bits };
 
+    // α^i at place i
+    fn powers() -> &'static [u8]
+        ensures { result.now ≡ powers bits poly };
+
+    // i at place α^i, and 0 at place 0
+    fn logarithms() -> &'static [u8]
+        ensures { result.now ≡ logarithms bits poly };
+
     // α^exponent
-    fn power(exponent: u32) -> u32
-        ensures { result ≡ steps bits poly exponent 1 };
+    final fn power(exponent: u32) -> u32
+        ensures { result ≡ steps bits poly exponent 1 }
+    {
+        let powers = Self::powers();
+        u32::from(powers[exponent as usize % powers.len()])
+    }
 
     // The exponent of α at the low bits of `a`, and 0 where they are 0.
-    fn logarithm(a: u32) -> u32
+    final fn logarithm(a: u32) -> u32
         ensures below { result < 2 ^ bits - 1 }
         ensures exponent { 0 < a % 2 ^ bits → steps bits poly result 1 ≡ a % 2 ^ bits }
-        ensures zero { a % 2 ^ bits ≡ 0 → result ≡ 0 };
+        ensures zero { a % 2 ^ bits ≡ 0 → result ≡ 0 }
+    {
+        let logarithms = Self::logarithms();
+        u32::from(logarithms[a as usize % logarithms.len()])
+    }
 
     ghost generates: { Primitive bits poly };
 }
@@ -32,12 +49,18 @@ pub struct Tabled<T> {
     pub tables: T,
 }
 
-// The element with every bit set, which is also the number of nonzero elements.
-fn ones(width: u32) -> u32
-    requires { width < 32 }
-    ensures { result ≡ 2 ^ width - 1 }
+// The element that `a` stands for.
+fn element<T: Logarithms>(a: u32) -> u32
+    ensures { result ≡ a % 2 ^ T.Logarithms.bits }
 {
-    (1 << width) - 1
+    a % (1 << T::width())
+}
+
+// The number of nonzero elements.
+fn order<T: Logarithms>() -> u32
+    ensures { result ≡ 2 ^ T.Logarithms.bits - 1 }
+{
+    (1 << T::width()) - 1
 }
 
 impl<T: Logarithms> Arithmetic for Tabled<T> {
@@ -54,16 +77,14 @@ impl<T: Logarithms> Arithmetic for Tabled<T> {
     }
 
     fn product(a: u32, b: u32) -> u32 {
-        let mask = ones(T::width());
-        if a & mask == 0 || b & mask == 0 {
+        if element::<T>(a) == 0 || element::<T>(b) == 0 {
             return 0;
         }
         T::power(T::logarithm(a) + T::logarithm(b))
     }
 
     fn inverse(a: u32) -> u32 {
-        let order = ones(T::width());
-        let reciprocal = T::power(order - T::logarithm(a));
-        if a & order == 0 { 0 } else { reciprocal }
+        let reciprocal = T::power(order::<T>() - T::logarithm(a));
+        if element::<T>(a) == 0 { 0 } else { reciprocal }
     }
 }

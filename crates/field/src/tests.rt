@@ -11,7 +11,7 @@ use std::process::Abort;
 #[test]
 fn nibble(rt: HostRuntime) {
     assert_eq!(rt; Nibble::width(), 4);
-    assert_eq!(rt; nibble_alpha_4(), 3);
+    assert_eq!(rt; alpha_to_width::<Nibble>(), 3);
     assert_eq!(rt; raise::<Nibble>(2, 4), 3);
     assert_eq!(rt; raise::<Nibble>(2, 7), 11);
     assert_eq!(rt; raise::<Nibble>(2, 15), 1);
@@ -32,8 +32,8 @@ fn octet<F: Arithmetic>(rt: &impl Abort) {
 
 #[test]
 fn octets(rt: HostRuntime) {
-    assert_eq!(rt; tabled_octet_alpha_8(), 0x1D);
-    assert_eq!(rt; stepped_octet_alpha_8(), 0x1D);
+    assert_eq!(rt; alpha_to_width::<TabledOctet>(), 0x1D);
+    assert_eq!(rt; alpha_to_width::<SteppedOctet>(), 0x1D);
     octet::<TabledOctet>(&rt);
     octet::<SteppedOctet>(&rt);
     assert!(rt; same_octets(0xFFFF_FFFF, 0x1234_56B7));

@@ -1,12 +1,13 @@
 -- The laws of a field, where α goes through every nonzero element.
-use mathlib.Core.Path.{◌≡◌, sym, ap, ◌∙◌}
+use mathlib.Core.Path.{◌≡◌, sym, ap, ap₂, ◌∙◌}
 use Prim.Native.Nat.{ℕ, zero, suc, ◌+◌, ◌-◌, ◌*◌, ◌/◌, ◌%◌, ◌^◌, ◌<◌, ◌≤◌}
-use native.Mathlib.Nat.{add_comm, suc-mul, zero-mul, mul_comm, div-add-mod', zero-lt-suc}
+use native.Mathlib.Nat.{add_comm, suc-mul, zero-mul, one-mul, mul_comm, div-add-mod', zero-lt-suc, pow-suc, mod-lt}
 use native.Mathlib.Omega.{arith}
-use lib.Bits.{bit_xor}
-use lib.Pow.{pow_mono}
+use lib.Bits.{bit_xor, xor_assoc, xor_self, xor_zero_l, xor_shifted}
+use lib.Pow.{pow_pos, pow_mono}
 use Rattle.galois.specs.Field.{steps, product, power, inverse, FieldLaws, Primitive}
 use Rattle.galois.proofs.Linear.{double_small, steps_lt, times_lt, times_right, times_steps, steps_add, times_zero_l, times_zero_r, product_one}
+use Rattle.galois.proofs.Turns.{double_big}
 
 module _ (m p : ℕ) (t : Primitive m p) where
   four : 4 ≤ 2 ^ m
@@ -134,6 +135,22 @@ module _ (m p : ℕ) (t : Primitive m p) where
   alpha i =
       ap (λ (x : ℕ). power (product m p) x i) (sym (double_small m p 1 two_lt)) ∙ power_step 1 i
       ∙ ap (λ (n : ℕ). steps m p n 1) (omega arith)
+
+  -- α^m by lower powers
+  pub alpha_to_width : product m p 2 (2 ^ (m - 1)) ≡ p % 2 ^ m
+  unfolding steps
+  alpha_to_width =
+      let top = 2 ^ m in
+      let half = 2 ^ (m - 1) in
+      let wide = t.wide in
+      let twice : half * 2 ≡ top = sym (pow-suc 2 (m - 1)) ∙ ap (λ (k : ℕ). 2 ^ k) (omega arith) in
+      let pos : 0 < half = pow_pos (m - 1) in
+      let leads : p ≡ bit_xor top (p % top) =
+      sym (div-add-mod' p top) ∙ ap (λ (k : ℕ). k * top + p % top) t.top ∙ sym (xor_shifted 1 m (p % top) (mod-lt p (pow_pos m))) ∙ ap (λ (k : ℕ). bit_xor k (p % top)) (one-mul top) in
+      ap (λ (x : ℕ). product m p x half) (sym (double_small m p 1 two_lt)) ∙ by_power 1 half (omega arith)
+      ∙ double_big m p half (omega arith) (omega arith)
+      ∙ ap₂ bit_xor twice leads ∙ sym (xor_assoc top top (p % top))
+      ∙ ap (λ (x : ℕ). bit_xor x (p % top)) (xor_self top) ∙ xor_zero_l (p % top)
 
   pub distinct : (i j : ℕ) → i < 2 ^ m - 1 → j < 2 ^ m - 1 → power (product m p) 2 i ≡ power (product m p) 2 j → i ≡ j
   distinct i j hi hj e = sym (t.log_of i hi) ∙ ap t.log (sym (alpha i) ∙ e ∙ alpha j) ∙ t.log_of j hj

@@ -1,47 +1,28 @@
--- The tables of powers and logarithms that a width and a polynomial give, one test of them that is computed, and what it says.
+-- One test of the tables that a width and a polynomial give, which is computed, and what it says.
 use mathlib.Core.Path.{◌≡◌, refl, sym, ap, ◌∙◌, subst}
-use mathlib.Core.Bool.{Bool, true}
-use mathlib.Core.List.{List, [], ◌∷◌}
-use Prim.Native.Nat.{ℕ, zero, suc, ◌-◌, ◌/◌, ◌%◌, ◌^◌, ◌<◌, ◌≤◌}
-use native.Mathlib.Nat.{le_of_suc-le-suc, not-suc-le-zero, mod-lt}
-use native.Mathlib.Decide.{ℕ_discrete}
-use native.Mathlib.Omega.{arith}
-use lib.Bits.{bit_and, and_mask}
-use lib.Pow.{pow_pos, pow_mono}
+use mathlib.Core.Bool.{Bool, true, ◌&&◌}
+use mathlib.Core.List.{List}
+use Prim.Native.Nat.{ℕ, zero, suc, ◌-◌, ◌/◌, ◌^◌, ◌<◌, ◌≤◌}
+use native.Mathlib.Nat.{le_of_suc-le-suc, not-suc-le-zero}
 use lib.Dec.{T, eqb, ltb, eqb→eq, ltb→lt}
-use lib.ListN.{length, get_or, set, replicate}
+use lib.Ieee.Fits.{and_l, and_r}
+use lib.ListN.{length, get_or}
 use Rattle.galois.specs.Field.{double, steps, Primitive}
-use Rattle.galois.proofs.Every.{both, both_left, both_right, every, at}
+use Rattle.galois.specs.Tables.{powers_from, powers, logarithms}
+use Rattle.galois.proofs.Every.{every, at}
 use Rattle.galois.proofs.Linear.{steps_double}
-use Rattle.galois.proofs.Laws.{steps_mod}
-
--- x, α·x, .., n of them
-unfoldable pub powers_from : ℕ → ℕ → ℕ → ℕ → List ℕ
-powers_from m p zero x = []
-powers_from m p (suc n) x = x ∷ powers_from m p n (double m p x)
-
-unfoldable pub powers : ℕ → ℕ → List ℕ
-powers m p = powers_from m p (2 ^ m - 1) 1
-
--- the table with i, i + 1, .. entered at the elements of the list
-unfoldable pub entered : List ℕ → ℕ → List ℕ → List ℕ
-entered [] i table = table
-entered (x ∷ xs) i table = entered xs (suc i) (set table x i)
-
-unfoldable pub logarithms : ℕ → ℕ → List ℕ
-logarithms m p = entered (powers m p) 0 (replicate (2 ^ m) 0)
 
 abbrev pub logged : List ℕ → ℕ → ℕ → Bool
 logged log i e = eqb (get_or log e 0) i
 
 abbrev pub powered : ℕ → List ℕ → ℕ → ℕ → Bool
 powered n exp zero l = true
-powered n exp (suc a) l = both (ltb l n) (eqb (get_or exp l 0) (suc a))
+powered n exp (suc a) l = ltb l n && eqb (get_or exp l 0) (suc a)
 
 abbrev pub tested : ℕ → ℕ → List ℕ → List ℕ → Bool
 tested m p exp log =
-    both (ltb 2 m) (both (ltb m 11) (both (eqb (p / 2 ^ m) 1) (both (eqb (steps m p (2 ^ m - 1) 1) 1) (both (eqb (length log) (2 ^ m))
-    (both (eqb (get_or log 0 0) 0) (both (every (logged log) 0 exp) (every (powered (2 ^ m - 1) exp) 0 log)))))))
+    ltb 2 m && (ltb m 11 && (eqb (p / 2 ^ m) 1 && (eqb (steps m p (2 ^ m - 1) 1) 1 && (eqb (length log) (2 ^ m)
+    && (eqb (get_or log 0 0) 0 && (every (logged log) 0 exp && every (powered (2 ^ m - 1) exp) 0 log))))))
 
 -- α goes through every nonzero element
 unfoldable pub generates : ℕ → ℕ → Bool
@@ -56,7 +37,7 @@ pub length_powers : (m p : ℕ) → length (powers m p) ≡ 2 ^ m - 1
 unfolding powers
 length_powers m p = length_powers_from m p (2 ^ m - 1) 1
 
-powers_from_at : (m p n x : ℕ) → p / 2 ^ m ≡ 1 → (i : ℕ) → i < n → get_or (powers_from m p n x) i 0 ≡ steps m p i x
+pub powers_from_at : (m p n x : ℕ) → p / 2 ^ m ≡ 1 → (i : ℕ) → i < n → get_or (powers_from m p n x) i 0 ≡ steps m p i x
 unfolding powers_from steps
 powers_from_at m p zero x top i h = absurd (not-suc-le-zero h)
 powers_from_at m p (suc n) x top zero h = refl
@@ -64,11 +45,11 @@ powers_from_at m p (suc n) x top (suc i) h = powers_from_at m p n (double m p x)
 
 powered_lt : (n : ℕ) (exp : List ℕ) (a l : ℕ) → 0 < a → T (powered n exp a l) → l < n
 powered_lt n exp zero l h t = absurd (not-suc-le-zero h)
-powered_lt n exp (suc a) l h t = ltb→lt l n (both_left (ltb l n) (eqb (get_or exp l 0) (suc a)) t)
+powered_lt n exp (suc a) l h t = ltb→lt l n (and_l (ltb l n) (eqb (get_or exp l 0) (suc a)) t)
 
 powered_eq : (n : ℕ) (exp : List ℕ) (a l : ℕ) → 0 < a → T (powered n exp a l) → get_or exp l 0 ≡ a
 powered_eq n exp zero l h t = absurd (not-suc-le-zero h)
-powered_eq n exp (suc a) l h t = eqb→eq (get_or exp l 0) (suc a) (both_right (ltb l n) (eqb (get_or exp l 0) (suc a)) t)
+powered_eq n exp (suc a) l h t = eqb→eq (get_or exp l 0) (suc a) (and_r (ltb l n) (eqb (get_or exp l 0) (suc a)) t)
 
 module _ (m p : ℕ) (passed : T (generates m p)) where
   -- what the test says, part by part
@@ -78,7 +59,6 @@ module _ (m p : ℕ) (passed : T (generates m p)) where
     pub top : p / 2 ^ m ≡ 1
     pub round : steps m p (2 ^ m - 1) 1 ≡ 1
     pub size : length (logarithms m p) ≡ 2 ^ m
-    pub zeroth : get_or (logarithms m p) 0 0 ≡ 0
     pub logged_all : T (every (logged (logarithms m p)) 0 (powers m p))
     pub powered_all : T (every (powered (2 ^ m - 1) (powers m p)) 0 (logarithms m p))
 
@@ -86,21 +66,20 @@ module _ (m p : ℕ) (passed : T (generates m p)) where
   unfolding generates
   parts =
       let log = logarithms m p in
-      let t0 = both_right (ltb 2 m) _ passed in
-      let t1 = both_right (ltb m 11) _ t0 in
-      let t2 = both_right (eqb (p / 2 ^ m) 1) _ t1 in
-      let t3 = both_right (eqb (steps m p (2 ^ m - 1) 1) 1) _ t2 in
-      let t4 = both_right (eqb (length log) (2 ^ m)) _ t3 in
-      let t5 = both_right (eqb (get_or log 0 0) 0) _ t4 in
+      let t0 = and_r (ltb 2 m) _ passed in
+      let t1 = and_r (ltb m 11) _ t0 in
+      let t2 = and_r (eqb (p / 2 ^ m) 1) _ t1 in
+      let t3 = and_r (eqb (steps m p (2 ^ m - 1) 1) 1) _ t2 in
+      let t4 = and_r (eqb (length log) (2 ^ m)) _ t3 in
+      let t5 = and_r (eqb (get_or log 0 0) 0) _ t4 in
       record {
-        wide = ltb→lt 2 m (both_left (ltb 2 m) _ passed);
-        narrow = le_of_suc-le-suc (ltb→lt m 11 (both_left (ltb m 11) _ t0));
-        top = eqb→eq (p / 2 ^ m) 1 (both_left (eqb (p / 2 ^ m) 1) _ t1);
-        round = eqb→eq (steps m p (2 ^ m - 1) 1) 1 (both_left (eqb (steps m p (2 ^ m - 1) 1) 1) _ t2);
-        size = eqb→eq (length log) (2 ^ m) (both_left (eqb (length log) (2 ^ m)) _ t3);
-        zeroth = eqb→eq (get_or log 0 0) 0 (both_left (eqb (get_or log 0 0) 0) _ t4);
-        logged_all = both_left (every (logged log) 0 (powers m p)) (every (powered (2 ^ m - 1) (powers m p)) 0 log) t5;
-        powered_all = both_right (every (logged log) 0 (powers m p)) (every (powered (2 ^ m - 1) (powers m p)) 0 log) t5;
+        wide = ltb→lt 2 m (and_l (ltb 2 m) _ passed);
+        narrow = le_of_suc-le-suc (ltb→lt m 11 (and_l (ltb m 11) _ t0));
+        top = eqb→eq (p / 2 ^ m) 1 (and_l (eqb (p / 2 ^ m) 1) _ t1);
+        round = eqb→eq (steps m p (2 ^ m - 1) 1) 1 (and_l (eqb (steps m p (2 ^ m - 1) 1) 1) _ t2);
+        size = eqb→eq (length log) (2 ^ m) (and_l (eqb (length log) (2 ^ m)) _ t3);
+        logged_all = and_l (every (logged log) 0 (powers m p)) (every (powered (2 ^ m - 1) (powers m p)) 0 log) t5;
+        powered_all = and_r (every (logged log) 0 (powers m p)) (every (powered (2 ^ m - 1) (powers m p)) 0 log) t5;
       }
 
   power_at : (i : ℕ) → i < 2 ^ m - 1 → get_or (powers m p) i 0 ≡ steps m p i 1
@@ -135,25 +114,3 @@ module _ (m p : ℕ) (passed : T (generates m p)) where
     log_is = log_is;
     log_of = log_of;
   }
-
-  some : 0 < 2 ^ m - 1
-  some = let h : 8 ≤ 2 ^ m = pow_mono {i = 3} parts.wide in omega arith
-
-  -- what a read of the table of powers answers
-  pub power_read : (e : ℕ) → get_or (powers m p) (e % (2 ^ m - 1)) 0 ≡ steps m p e 1
-  power_read e = power_at (e % (2 ^ m - 1)) (mod-lt e some) ∙ steps_mod m p primitive e
-
-  -- what a read of the table of logarithms answers
-  pub log_read_lt : (a : ℕ) → get_or (logarithms m p) (bit_and a (2 ^ m - 1)) 0 < 2 ^ m - 1
-  log_read_lt a =
-      subst (λ (x : ℕ). get_or (logarithms m p) x 0 < 2 ^ m - 1) (sym (and_mask a m))
-      (elim (ℕ_discrete (a % 2 ^ m) 0) [
-        | yes q ↦ rw (q, parts.zeroth) some
-        | no q ↦ log_lt (a % 2 ^ m) (omega arith) (mod-lt a (pow_pos m))
-      ])
-
-  pub log_read : (a : ℕ) → 0 < a % 2 ^ m → steps m p (get_or (logarithms m p) (bit_and a (2 ^ m - 1)) 0) 1 ≡ a % 2 ^ m
-  log_read a z = ap (λ (x : ℕ). steps m p (get_or (logarithms m p) x 0) 1) (and_mask a m) ∙ log_is (a % 2 ^ m) z (mod-lt a (pow_pos m))
-
-  pub log_read_zero : (a : ℕ) → a % 2 ^ m ≡ 0 → get_or (logarithms m p) (bit_and a (2 ^ m - 1)) 0 ≡ 0
-  log_read_zero a z = ap (λ (x : ℕ). get_or (logarithms m p) x 0) (and_mask a m ∙ z) ∙ parts.zeroth

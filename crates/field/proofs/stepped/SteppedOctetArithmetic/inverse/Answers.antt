@@ -1,4 +1,4 @@
-use Rattle.std.proofs.Common.{◌≡◌, ℕ, ◌+◌, ◌-◌, ◌*◌, ◌%◌, ◌^◌, ◌<◌, sym, refl, ap, ◌∙◌, ap₂, mod-lt, mod-eq_of_lt, arith, lit<, pow_pos, pow-add}
+use Rattle.std.proofs.Common.{◌≡◌, ℕ, ◌+◌, ◌-◌, ◌*◌, ◌%◌, ◌^◌, ◌<◌, sym, refl, ap, ◌∙◌, ap₂, mod-eq_of_lt, arith, pow_pos, pow-add}
 use lib.Bits.{and_mask}
 use Rattle.galois.specs.Field.{product, power, inverse}
 use Rattle.galois.proofs.Laws.{laws}
@@ -17,25 +17,30 @@ powers a e f x y h p q =
 
 pub loop-i-init : goal.loop-i-init
 unfolding power
-loop-i-init c =
-    let a_lt : c.args.a % 256 < 256 = mod-lt c.args.a (lit< tt) in
-    (and_mask c.args.a 8 ∙ sym (prod_one (laws 8 0x11D octet) (c.args.a % 256) a_lt), refl)
+loop-i-init c = record {
+  square = and_mask c.args.a 8 ∙ sym (prod_one (laws 8 0x11D octet) (c.args.a % 256) (omega arith));
+  inverse = refl;
+}
 
 pub loop-i-preserved : goal.loop-i-preserved
 loop-i-preserved c =
     let a = c.args.a % 256 in
-    let a_lt : a < 256 = mod-lt c.args.a (lit< tt) in
+    let lt : a < 256 = omega arith in
     let i = c.loop-i._i in
+    let was = c.loop-i.invariant in
     let once : 2 ^ (i + 1) ≡ 2 ^ i * 2 = pow-add 2 i 1 in
-    let more : 2 ^ (i + 1 + 1) ≡ 2 ^ (i + 1) * 2 = pow-add 2 (i + 1) 1 in
+    let twice : 2 ^ (i + 1 + 1) ≡ 2 ^ (i + 1) * 2 = pow-add 2 (i + 1) 1 in
     let pos : 0 < 2 ^ i = pow_pos i in
     let e : 2 ^ i + 2 ^ i ≡ 2 ^ (i + 1) = omega arith in
     let f : 2 ^ (i + 1) - 2 + 2 ^ (i + 1) ≡ 2 ^ (i + 1 + 1) - 2 = omega arith in
-    let squared = c.by_steps-square.ensures ∙ powers a (2 ^ i) (2 ^ i) _ _ a_lt c.loop-i.invariant.0 c.loop-i.invariant.0 ∙ ap (power (product 8 0x11D) a) e in
-    (squared, c.by_steps-inverse.ensures ∙ powers a (2 ^ (i + 1) - 2) (2 ^ (i + 1)) _ _ a_lt c.loop-i.invariant.1 squared ∙ ap (power (product 8 0x11D) a) f)
+    let squared = c.by_steps-square.ensures ∙ powers a (2 ^ i) (2 ^ i) _ _ lt was.square was.square ∙ ap (power (product 8 0x11D) a) e in
+    record {
+      square = squared;
+      inverse = c.by_steps-inverse.ensures ∙ powers a (2 ^ (i + 1) - 2) (2 ^ (i + 1)) _ _ lt was.inverse squared ∙ ap (power (product 8 0x11D) a) f;
+    }
 
 pub returns : goal.returns
 unfolding inverse
 returns c =
-    let all : c.loop-i._i ≡ 7 = let h = c.loop-i-test.false in let k = c.loop-i.auto in omega arith in
-    c.loop-i.invariant.1 ∙ ap (λ (n : ℕ). power (product 8 0x11D) (c.args.a % 256) (2 ^ (n + 1) - 2)) all
+    let all : c.loop-i._i ≡ 7 = let k = c.loop-i.auto in omega arith in
+    rw all at c.loop-i.invariant.inverse

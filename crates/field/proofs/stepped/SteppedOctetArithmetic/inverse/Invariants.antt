@@ -4,5 +4,7 @@ use Rattle.field.proofs.stepped.SteppedOctetArithmetic.inverse.Given as goal
 
 abbrev pub invariant-loop-i : goal.invariant-loop-i
 invariant-loop-i l =
-    (l.square ≡ power (product 8 0x11D) (l.a % 256) (2 ^ l._i))
-    × (l.inverse ≡ power (product 8 0x11D) (l.a % 256) (2 ^ (l._i + 1) - 2))
+    record {
+      square : l.square ≡ power (product 8 0x11D) (l.a % 256) (2 ^ l._i);
+      inverse : l.inverse ≡ power (product 8 0x11D) (l.a % 256) (2 ^ (l._i + 1) - 2);
+    }

@@ -1,35 +1,26 @@
-use Rattle.std.proofs.Common.{◌≡◌, ℕ, ◌%◌, ◌^◌, ◌<◌, sym, ap, ◌∙◌, mod-lt, arith, pow_pos}
-use Rattle.galois.specs.Field.{product}
+use Rattle.std.proofs.Common.{◌≡◌, ◌%◌, ◌^◌, ◌∙◌, sym, mod-lt, arith, pow_pos}
+use Rattle.galois.specs.Field.{steps}
 use Rattle.galois.proofs.Laws.{zero_l, zero_r, product_by_logs}
-use Rattle.field.proofs.Masks.{masked}
 use Rattle.field.proofs.tabled.TabledArithmetic.product.Goals as goal
-use Rattle.field.proofs.tabled.TabledArithmetic.product.Goals.{then-a-mask-eq0-via-then-a-mask-eq0, then-a-mask-eq0-via-else-a-mask-eq0+then-b-mask-eq0}
+use Rattle.field.proofs.tabled.TabledArithmetic.product.Goals.{then-element-eq0-via-then-element-eq0, then-element-eq0-via-else-element-eq0+then-element-eq0-2}
 
-pub returns-then-a-mask-eq0 : goal.returns-then-a-mask-eq0
-returns-then-a-mask-eq0 g c =
+pub returns-then-element-eq0 : goal.returns-then-element-eq0
+returns-then-element-eq0 g c =
     let m = g.T.Logarithms.bits in
-    let p = g.T.Logarithms.poly in
-    let s = g.met.T.Logarithms.generates in
-    let low : (a : ℕ) → _ = λ a. masked m _ _ a c.width.ensures c.ones-mask.ensures in
-    elim c.then-a-mask-eq0.branch [
-      | then-a-mask-eq0-via-then-a-mask-eq0 w ↦
-          let z : c.args.a % 2 ^ m ≡ 0 = sym (low c.args.a) ∙ w.if-a-mask-eq0.true in
-          sym (ap (λ (x : ℕ). product m p x (c.args.b % 2 ^ m)) z ∙ zero_l m p s (c.args.b % 2 ^ m))
-      | then-a-mask-eq0-via-else-a-mask-eq0+then-b-mask-eq0 w ↦
-          let z : c.args.b % 2 ^ m ≡ 0 = sym (low c.args.b) ∙ w.if-b-mask-eq0.true in
-          sym (ap (product m p (c.args.a % 2 ^ m)) z ∙ zero_r m p s (c.args.a % 2 ^ m))
+    let t = g.met.T.Logarithms.generates in
+    elim c.then-element-eq0.branch [
+      | then-element-eq0-via-then-element-eq0 w ↦
+          let z : c.args.a % 2 ^ m ≡ 0 = let h = w.if-element-eq0.true in omega arith in
+          rw z (sym (zero_l _ _ t (c.args.b % 2 ^ m)))
+      | then-element-eq0-via-else-element-eq0+then-element-eq0-2 w ↦
+          let z : c.args.b % 2 ^ m ≡ 0 = let h = w.if-element-eq0-2.true in omega arith in
+          rw z (sym (zero_r _ _ t (c.args.a % 2 ^ m)))
     ]
 
 pub returns : goal.returns
 returns g c =
     let m = g.T.Logarithms.bits in
     let p = g.T.Logarithms.poly in
-    let s = g.met.T.Logarithms.generates in
-    let low : (a : ℕ) → _ = λ a. masked m _ _ a c.width.ensures c.ones-mask.ensures in
-    let la = low c.args.a in
-    let lb = low c.args.b in
-    let na : 0 < c.args.a % 2 ^ m = let h = c.if-a-mask-eq0.false in omega arith in
-    let nb : 0 < c.args.b % 2 ^ m = let h = c.if-b-mask-eq0.false in omega arith in
-    c.power.ensures
-    ∙ product_by_logs m p s (c.args.a % 2 ^ m) (c.args.b % 2 ^ m) _ _ (mod-lt c.args.b (pow_pos m))
-    (c.logarithm.ensures.exponent na) (c.logarithm-2.ensures.exponent nb)
+    let a : steps m p c.logarithm.result 1 ≡ c.args.a % 2 ^ m = c.logarithm.ensures.exponent (omega arith) in
+    let b : steps m p c.logarithm-2.result 1 ≡ c.args.b % 2 ^ m = c.logarithm-2.ensures.exponent (omega arith) in
+    c.power.ensures ∙ product_by_logs m p g.met.T.Logarithms.generates _ _ _ _ (mod-lt c.args.b (pow_pos m)) a b

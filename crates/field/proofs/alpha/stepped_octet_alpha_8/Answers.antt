@@ -1,6 +1,0 @@
-use Rattle.galois.specs.Field.{product, times, double}
-use Rattle.field.proofs.alpha.stepped_octet_alpha_8.Goals as goal
-
-pub returns : goal.returns
-unfolding product times double
-returns c = c.product.ensures
