@@ -1,3 +1,4 @@
 pub mod Places
 pub mod Marks
 pub mod Flash
+pub mod Formats

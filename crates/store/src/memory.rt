@@ -4,7 +4,7 @@ ghost use Rattle.store.specs.Grids.{NoSlots};
 ghost use Rattle.store.specs.Layout.{memory_grid};
 
 use crate::SlotStore;
-use crate::slots::Format;
+use crate::slots::{Format, Slot};
 use refusal::Refusal;
 
 #[derive(Drop)]
@@ -33,12 +33,7 @@ impl SlotStore for MemoryStore<'_> {
 
     ghost lock = { λ s. 0 };
 
-    fn format(&mut self, rows: usize, columns: usize, size: usize) -> Result<(), Refusal> {
-        let format = Format {
-            rows,
-            columns,
-            size,
-        };
+    fn format(&mut self, format: Format) -> Result<(), Refusal> {
         if !format.fits(self.words.len()) {
             return Err(Refusal::BadFormat);
         }
@@ -47,15 +42,15 @@ impl SlotStore for MemoryStore<'_> {
         Ok(())
     }
 
-    fn held(&self, row: usize, column: usize) -> Result<bool, Refusal> {
-        match self.format.place(self.words.len(), row, column) {
+    fn held(&self, slot: Slot) -> Result<bool, Refusal> {
+        match self.format.place(self.words.len(), slot) {
             Some(at) => Ok(self.words[at] != 0),
             None => Err(Refusal::OutsideGrid),
         }
     }
 
-    fn put(&mut self, row: usize, column: usize, words: &[u32]) -> Result<(), Refusal> {
-        let Some(at) = self.format.place(self.words.len(), row, column) else {
+    fn put(&mut self, slot: Slot, words: &[u32]) -> Result<(), Refusal> {
+        let Some(at) = self.format.place(self.words.len(), slot) else {
             return Err(Refusal::OutsideGrid);
         };
         if words.len() != self.format.size {
@@ -69,8 +64,8 @@ impl SlotStore for MemoryStore<'_> {
         Ok(())
     }
 
-    fn get(&self, row: usize, column: usize, run: &mut [u32]) -> Result<(), Refusal> {
-        let Some(at) = self.format.place(self.words.len(), row, column) else {
+    fn get(&self, slot: Slot, run: &mut [u32]) -> Result<(), Refusal> {
+        let Some(at) = self.format.place(self.words.len(), slot) else {
             return Err(Refusal::OutsideGrid);
         };
         if run.len() != self.format.size {

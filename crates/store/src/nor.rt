@@ -8,7 +8,7 @@ ghost use Rattle.store.specs.Layout.{slot_at};
 ghost use Rattle.store.specs.Nor.{erased, fill_refusal, lock_of, nor_grid, programmed, run_after_format, run_after_put, slot_after};
 
 use crate::SlotStore;
-use crate::slots::Format;
+use crate::slots::{Format, Slot};
 use refusal::Refusal;
 
 // A word of erased flash, which is also the mark of an empty slot.
@@ -98,14 +98,13 @@ pub fn format_words(words: &mut [u32], format: Format) -> Result<(), Refusal>
 pub fn put_words(
     words: &mut [u32],
     format: Format,
-    row: usize,
-    column: usize,
+    slot: Slot,
     packet: &[u32],
 ) -> Result<(), Refusal>
-    ensures answer { refused_with result ≡ put_refusal (nor_grid format.rows format.columns format.size words.old) row column packet.now }
-    ensures run { words.new ≡ run_after_put result words.old (slot_at format.columns format.size row column) packet.now }
+    ensures answer { refused_with result ≡ put_refusal (nor_grid format.rows format.columns format.size words.old) slot.row slot.column packet.now }
+    ensures run { words.new ≡ run_after_put result words.old (slot_at format.columns format.size slot.row slot.column) packet.now }
     ensures shut { lock_of words.new ≡ 0 }
-    ensures after { AfterPut result (nor_grid format.rows format.columns format.size words.old) row column packet.now (nor_grid format.rows format.columns format.size words.new) }
+    ensures after { AfterPut result (nor_grid format.rows format.columns format.size words.old) slot.row slot.column packet.now (nor_grid format.rows format.columns format.size words.new) }
 {
     if words.is_empty() {
         return Err(Refusal::OutsideGrid);
@@ -113,7 +112,7 @@ pub fn put_words(
     let capacity = words.len() - 1;
     let guard = Guard { words };
     guard.words[0] = 1;
-    let Some(at) = format.place(capacity, row, column) else {
+    let Some(at) = format.place(capacity, slot) else {
         return Err(Refusal::OutsideGrid);
     };
     if packet.len() != format.size {
@@ -152,12 +151,7 @@ impl SlotStore for NorStore<'_> {
 
     ghost lock = { λ s. lock_of s.words.now };
 
-    fn format(&mut self, rows: usize, columns: usize, size: usize) -> Result<(), Refusal> {
-        let format = Format {
-            rows,
-            columns,
-            size,
-        };
+    fn format(&mut self, format: Format) -> Result<(), Refusal> {
         match format_words(self.words, format) {
             Ok(()) => {
                 self.format = format;
@@ -167,26 +161,20 @@ impl SlotStore for NorStore<'_> {
         }
     }
 
-    fn held(&self, row: usize, column: usize) -> Result<bool, Refusal> {
-        let Some(at) = self
-            .format
-            .place(self.words.len().saturating_sub(1), row, column)
-        else {
+    fn held(&self, slot: Slot) -> Result<bool, Refusal> {
+        let Some(at) = self.format.place(self.words.len().saturating_sub(1), slot) else {
             return Err(Refusal::OutsideGrid);
         };
         Ok(!is_erased(&self.words[1 + at..2 + at + self.format.size]))
     }
 
-    fn put(&mut self, row: usize, column: usize, words: &[u32]) -> Result<(), Refusal> {
+    fn put(&mut self, slot: Slot, words: &[u32]) -> Result<(), Refusal> {
         let format = self.format;
-        put_words(self.words, format, row, column, words)
+        put_words(self.words, format, slot, words)
     }
 
-    fn get(&self, row: usize, column: usize, run: &mut [u32]) -> Result<(), Refusal> {
-        let Some(at) = self
-            .format
-            .place(self.words.len().saturating_sub(1), row, column)
-        else {
+    fn get(&self, slot: Slot, run: &mut [u32]) -> Result<(), Refusal> {
+        let Some(at) = self.format.place(self.words.len().saturating_sub(1), slot) else {
             return Err(Refusal::OutsideGrid);
         };
         if run.len() != self.format.size {

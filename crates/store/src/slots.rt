@@ -3,8 +3,27 @@ ghost use Rattle.std.specs.Prelude.{◌≡◌, ◌+◌, ◌*◌, ◌<◌, ◌≤
 ghost use Rattle.store.specs.Grids.{format_fits};
 ghost use Rattle.store.specs.Layout.{Outside, Place, slot_at};
 
+// A slot of a grid, by its row and its column.
+#[derive(Clone, Copy, PartialEq, Eq, Debug)]
+pub struct Slot {
+    pub row: usize,
+    pub column: usize,
+}
+
+impl Slot {
+    // The slot with its row and its column exchanged.
+    pub fn transposed(self) -> Slot
+        ensures { (result.row ≡ self.column) × (result.column ≡ self.row) }
+    {
+        Slot {
+            row: self.column,
+            column: self.row,
+        }
+    }
+}
+
 // The three numbers of a format; all are 0 in a new store.
-#[derive(Clone, Copy)]
+#[derive(Clone, Copy, PartialEq, Eq, Debug)]
 pub struct Format {
     pub rows: usize,
     pub columns: usize,
@@ -22,6 +41,17 @@ impl Format {
         }
     }
 
+    // The format with its rows and its columns exchanged.
+    pub fn transposed(self) -> Format
+        ensures { (result.rows ≡ self.columns) × (result.columns ≡ self.rows) × (result.size ≡ self.size) }
+    {
+        Format {
+            rows: self.columns,
+            columns: self.rows,
+            size: self.size,
+        }
+    }
+
     // Whether a store of this capacity takes the format.
     pub fn fits(self, capacity: usize) -> bool
         ensures { result ≡ format_fits capacity self.rows self.columns self.size }
@@ -36,22 +66,22 @@ impl Format {
     }
 
     // Where a slot begins; none outside the grid.
-    pub fn place(self, capacity: usize, row: usize, column: usize) -> Option<usize>
-        ensures { MatchOption result (Outside capacity self.rows self.columns self.size row column) (λ at. Place capacity self.rows self.columns self.size row column at) }
+    pub fn place(self, capacity: usize, slot: Slot) -> Option<usize>
+        ensures { MatchOption result (Outside capacity self.rows self.columns self.size slot.row slot.column) (λ at. Place capacity self.rows self.columns self.size slot.row slot.column at) }
     {
-        if !self.fits(capacity) || row >= self.rows || column >= self.columns {
+        if !self.fits(capacity) || slot.row >= self.rows || slot.column >= self.columns {
             return None;
         }
-        Some(self.slot_at(capacity, row, column))
+        Some(self.slot_at(capacity, slot))
     }
 
-    fn slot_at(self, capacity: usize, row: usize, column: usize) -> usize
+    fn slot_at(self, capacity: usize, slot: Slot) -> usize
         requires fits { format_fits capacity self.rows self.columns self.size ≡ true }
-        requires row { row < self.rows }
-        requires column { column < self.columns }
-        ensures is { result ≡ slot_at self.columns self.size row column }
+        requires row { slot.row < self.rows }
+        requires column { slot.column < self.columns }
+        ensures is { result ≡ slot_at self.columns self.size slot.row slot.column }
         ensures within { result + self.size + 1 ≤ capacity }
     {
-        (row * self.columns + column) * (self.size + 1)
+        (slot.row * self.columns + slot.column) * (self.size + 1)
     }
 }

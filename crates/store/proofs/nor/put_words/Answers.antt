@@ -12,7 +12,7 @@ returns-then-is_empty c =
     let e : length w ≡ 0 = eqb-true _ _ (sym c.if-is_empty.ensures) in
     let s = shut_none w e in
     record {
-      answer = sym (cond-false _ _ _ (none_inside w c.args.format.rows c.args.format.columns c.args.format.size c.args.row c.args.column e));
+      answer = sym (cond-false _ _ _ (none_inside w c.args.format.rows c.args.format.columns c.args.format.size c.args.slot.row c.args.slot.column e));
       run = search rules;
       shut = shut_lock w _ s;
       after = search rules;
@@ -49,12 +49,12 @@ returns c =
     let r = c.fill_slot.result in
     let len : length ws ≡ n = c.if-packet-format.false in
     let lt : 0 < length w = not_empty (length w) c.if-is_empty.ensures in
-    let p : Place (length w - 1) c.args.format.rows c.args.format.columns n c.args.row c.args.column at =
+    let p : Place (length w - 1) c.args.format.rows c.args.format.columns n c.args.slot.row c.args.slot.column at =
     c.in-Some.ensures in
     let run = put_run r w c.fill_slot.new.slot _ ws at _ lt (omega arith) c.fill_slot.ensures.after c.drop-guard-2.ensures in
     record {
       answer = c.fill_slot.ensures.answer ∙ ap fill_refusal (past_open w at n _ 1 len) ∙ put_is_refused erased _ _ _ _ _ _ at (drop 1 w) ws _ p refl len;
       shut = shut_after_put r w at ws _ run;
       run = run ∙ ap (λ k. run_after_put r w k ws) p.at_is;
-      after = put_grid r w _ ws c.args.format.rows c.args.format.columns n c.args.row c.args.column at lt p len run;
+      after = put_grid r w _ ws c.args.format.rows c.args.format.columns n c.args.slot.row c.args.slot.column at lt p len run;
     }

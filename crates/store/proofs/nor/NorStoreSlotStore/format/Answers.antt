@@ -8,7 +8,7 @@ returns-in-Ok c =
     let l : length c.format_words.new.words ≡ length w = omega arith in
     record {
       answer = c.in-Ok.ensures.answer;
-      after = format_grid w _ c.args.rows c.args.columns c.args.size l c.in-Ok.ensures.answer c.in-Ok.ensures.run;
+      after = format_grid w _ c.args.format.rows c.args.format.columns c.args.format.size l c.in-Ok.ensures.answer c.in-Ok.ensures.run;
       shut = c.in-Ok.ensures.shut;
       kept = ap (λ k. k - 1) l;
     }
