@@ -8,6 +8,7 @@ ghost use Rattle.store.specs.Grids.{Grid, format_refusal, AfterFormat, held_answ
 use crate::slots::{Format, Slot};
 use refusal::Refusal;
 
+mod medium;
 pub mod memory;
 pub mod nor;
 pub mod slots;

@@ -1,7 +1,11 @@
 // How slots lie in a run of words: one after another, row by row, each a mark and then its packet.
-ghost use Rattle.std.specs.Prelude.{◌≡◌, ◌+◌, ◌*◌, ◌<◌, ◌≤◌, true, MatchOption};
+ghost use Rattle.std.specs.Prelude.{◌≡◌, ◌+◌, ◌*◌, ◌<◌, ◌≤◌, true, MatchOption, MatchResult, length};
+ghost use Rattle.refusal.specs.declared.Refusal.TheVariants.{OutsideGrid};
 ghost use Rattle.store.specs.Grids.{format_fits};
-ghost use Rattle.store.specs.Layout.{Outside, Place, slot_at};
+ghost use Rattle.store.specs.Layout.{InSlot, Outside, Place, slot_at};
+
+use refusal::Refusal;
+use std::ops::Range;
 
 // A slot of a grid, by its row and its column.
 #[derive(Clone, Copy, PartialEq, Eq, Debug)]
@@ -67,7 +71,7 @@ impl Format {
 
     // Where a slot begins; none outside the grid.
     pub fn place(self, capacity: usize, slot: Slot) -> Option<usize>
-        ensures { MatchOption result (Outside capacity self.rows self.columns self.size slot.row slot.column) (λ at. Place capacity self.rows self.columns self.size slot.row slot.column at) }
+        ensures { MatchOption result (Outside capacity self slot.row slot.column) (Place capacity self slot.row slot.column) }
     {
         if !self.fits(capacity) || slot.row >= self.rows || slot.column >= self.columns {
             return None;
@@ -75,11 +79,26 @@ impl Format {
         Some(self.slot_at(capacity, slot))
     }
 
+    // The words of a slot, its mark and its packet.
+    pub(crate) fn slot<'w>(self, slots: &'w [u32], slot: Slot) -> Result<&'w [u32], Refusal>
+        ensures { MatchResult result (λ words. InSlot slots.now self slot.row slot.column words.now) (λ refusal. Outside (length slots.now) self slot.row slot.column × (refusal ≡ OutsideGrid)) }
+    {
+        Ok(&slots[self.range(slots.len(), slot)?])
+    }
+
+    // Where the words of a slot lie, its mark and its packet.
+    pub(crate) fn range(self, capacity: usize, slot: Slot) -> Result<Range<usize>, Refusal>
+        ensures { MatchResult result (λ range. Place capacity self slot.row slot.column range.start × (range.end ≡ range.start + self.size + 1)) (λ refusal. Outside capacity self slot.row slot.column × (refusal ≡ OutsideGrid)) }
+    {
+        let at = self.place(capacity, slot).ok_or(Refusal::OutsideGrid)?;
+        Ok(at..at + self.size + 1)
+    }
+
     fn slot_at(self, capacity: usize, slot: Slot) -> usize
         requires fits { format_fits capacity self.rows self.columns self.size ≡ true }
         requires row { slot.row < self.rows }
         requires column { slot.column < self.columns }
-        ensures is { result ≡ slot_at self.columns self.size slot.row slot.column }
+        ensures is { result ≡ slot_at self slot.row slot.column }
         ensures within { result + self.size + 1 ≤ capacity }
     {
         (slot.row * self.columns + slot.column) * (self.size + 1)
