@@ -12,7 +12,7 @@ pub over_none : (f : ℕ → ℕ → ℕ) (xs : List ℕ) → over f xs [] ≡ x
 over_none f [] = refl
 over_none f (x ∷ xs) = refl
 
-pub over_past : (f : ℕ → ℕ → ℕ) (xs ys : List ℕ) (i : ℕ) → get_or (over f xs (take i ys)) i 0 ≡ get_or xs i 0
+over_past : (f : ℕ → ℕ → ℕ) (xs ys : List ℕ) (i : ℕ) → get_or (over f xs (take i ys)) i 0 ≡ get_or xs i 0
 over_past f [] ys i = refl
 over_past f (x ∷ xs) [] zero = refl
 over_past f (x ∷ xs) [] (suc i) = refl
@@ -25,8 +25,12 @@ over_suc f (x ∷ xs) [] i h k = absurd (omega arith)
 over_suc f (x ∷ xs) (y ∷ ys) zero h k = ap (λ z. f x y ∷ z) (sym (over_none f xs))
 over_suc f (x ∷ xs) (y ∷ ys) (suc i) h k = ap (λ z. f x y ∷ z) (over_suc f xs ys i (omega arith) (omega arith))
 
-pub over_more : (f : ℕ → ℕ → ℕ) (xs ys : List ℕ) (i : ℕ) → i < length xs → i < length ys → set (over f xs (take i ys)) i (f (get_or xs i 0) (get_or ys i 0)) ≡ over f xs (take (i + 1) ys)
-over_more f xs ys i h k = rw add-one (over_suc f xs ys i h k)
+-- one more word programmed
+pub programs_more : (xs ys zs : List ℕ) (i : ℕ) → length xs ≡ length ys → i < length ys → zs ≡ over bit_and xs (take i ys)
+    → set zs i (bit_and (get_or zs i 0) (get_or ys i 0)) ≡ over bit_and xs (take (i + 1) ys)
+programs_more xs ys zs i len h e =
+    ap (λ l. set l i (bit_and (get_or l i 0) (get_or ys i 0))) e ∙ ap (λ v. set (over bit_and xs (take i ys)) i (bit_and v (get_or ys i 0))) (over_past bit_and xs ys i)
+    ∙ rw add-one (over_suc bit_and xs ys i (omega arith) h)
 
 -- the packet programmed, and then the mark
 pub slot_programmed : (s q p : List ℕ) (k : ℕ) → 0 < length s → k ≡ length s - 1 → p ≡ programmed (take k (drop 1 s)) q

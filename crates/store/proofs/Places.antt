@@ -1,23 +1,18 @@
 -- Slots lie within the words and apart from each other; so a write to one slot fills that slot alone.
-use Rattle.std.proofs.Common.{◌≡◌, ℕ, suc, ◌+◌, ◌-◌, ◌*◌, ◌/◌, ◌%◌, ◌<◌, ◌≤◌, Bool, true, false, cond, ltb, leb, ◌⊎◌, List, ◌∷◌, length, take, drop, replicate, None, sym, refl, ap, ◌∙◌, subst, inl, inr, mul-le-mul_right, add-mul, arith, rules}
+use Rattle.std.proofs.Common.{◌≡◌, ℕ, suc, ◌+◌, ◌-◌, ◌*◌, ◌/◌, ◌%◌, ◌<◌, ◌≤◌, Bool, true, false, cond, ltb, ◌⊎◌, List, ◌∷◌, length, take, drop, replicate, None, sym, refl, ap, ◌∙◌, subst, inl, inr, mul-le-mul_right, add-mul, arith, rules}
 use borrow.Rule.Slice.PartMut.{put_mid}
 use Rattle.std.proofs.lemmas.List.{drop-replicate, take-replicate, length-replicate, places}
 use Rattle.std.proofs.lemmas.Slice.{take-put_mid_below, drop-put_mid, between-put_mid, between_is}
-use Rattle.std.proofs.lemmas.Bool.{cases_order, cases_Bool, and_parts, ltb-true, cond-false, cond-true, leb-true}
+use Rattle.std.proofs.lemmas.Bool.{cases_order, cases_Bool, and_parts, ltb-true, cond-false, cond-true}
+use Rattle.std.proofs.lemmas.Bool.Decides.{nat_tests}
 use Rattle.std.proofs.lemmas.Nat.{mul-add-lt, div-mul-add, mod-mul-add}
 use Rattle.store.specs.declared.slots.Format.{Format}
 use Rattle.store.specs.Grids.{format_fits, Filled, Emptied}
-use Rattle.store.specs.Layout.{slot_at, slot_words, packet_of, rows_of, within_rows, grid_of, Place}
+use Rattle.store.specs.Layout.{slot_at, slot_words, packet_of, rows_of, has_slot, grid_of, Place}
 
 -- the slots of a format that fits take no more than the capacity
-pub fits_product : (k r c n : ℕ) → format_fits k r c n ≡ true → r * c * (n + 1) ≤ k
-fits_product k r c n e =
-    let a = (and_parts (ltb 0 r) _ e).1 in
-    let b = (and_parts (leb r 1023) _ a).1 in
-    let d = (and_parts (ltb 0 c) _ b).1 in
-    let f = (and_parts (leb c 1023) _ d).1 in
-    let h = (and_parts (ltb 0 n) _ f).1 in
-    leb-true (r * c * (n + 1)) k (and_parts (leb n 256) _ h).1
+fits_product : (k r c n : ℕ) → format_fits k r c n ≡ true → r * c * (n + 1) ≤ k
+fits_product k r c n e = grind (arith, nat_tests)
 
 -- a slot ends within the words
 pub slot_within : (k : ℕ) (f : Format) (i j : ℕ) → format_fits k f.rows f.columns f.size ≡ true → i < f.rows → j < f.columns → slot_at f i j + f.size + 1 ≤ k
@@ -66,16 +61,16 @@ filled empty f i j at k mark xs new ws p ends len is e =
       rows_same = ap (λ m. rows_of m f) same;
       columns_same = refl;
       size_same = refl;
-      here = cond-true _ _ None (ap (λ m. within_rows m f i j) same ∙ p.is_inside)
+      here = cond-true _ _ None (ap (λ m. has_slot m f i j) same ∙ p.is_inside)
           ∙ ap (λ b. packet_of empty (slot_words (put_mid at (n + 1) xs new) b n)) (sym at_is)
           ∙ ap (packet_of empty) (between-put_mid at (n + 1) xs new (at + n + 1) (omega arith) (omega arith) ∙ is) ∙ cond-false _ None _ e;
-      others = λ a b ne. ap (λ m. cond (within_rows m f a b) (packet_of empty (slot_words (put_mid at (n + 1) xs new) (slot_at f a b) n)) None) same
-          ∙ elim (cases_Bool (within_rows (length xs) f a b)) [
+      others = λ a b ne. ap (λ m. cond (has_slot m f a b) (packet_of empty (slot_words (put_mid at (n + 1) xs new) (slot_at f a b) n)) None) same
+          ∙ elim (cases_Bool (has_slot (length xs) f a b)) [
             | inl t ↦
-                let lb : b < c = ltb-true b c (and_parts (ltb a (rows_of (length xs) f)) (ltb b c) t).1 in
-                let lj : j < c = ltb-true j c (and_parts (ltb i (rows_of (length xs) f)) (ltb j c) p.is_inside).1 in
+                let lb : b < c = ltb-true b c (and_parts _ _ t).1 in
+                let lj : j < c = ltb-true j c (and_parts _ _ p.is_inside).1 in
                 let way = slots_apart (a * c + b) (i * c + j) (n + 1) (places_differ a b i j c lb lj ne) in
-                ap (λ l. cond (within_rows (length xs) f a b) (packet_of empty l) None)
+                ap (λ l. cond (has_slot (length xs) f a b) (packet_of empty l) None)
                 (words_there xs new at n (slot_at f a b) h l (elim way [ inl w ↦ inl (omega arith) | inr w ↦ inr (omega arith) ]))
             | inr o ↦ cond-false _ _ _ o ∙ sym (cond-false _ _ _ o)
           ];
@@ -91,9 +86,9 @@ emptied empty f xs fits all =
       rows_is = rows;
       columns_is = refl;
       size_is = refl;
-      empty = λ i j. elim (cases_Bool (within_rows (length xs) f i j)) [
+      empty = λ i j. elim (cases_Bool (has_slot (length xs) f i j)) [
         | inl t ↦
-            let b = and_parts (ltb i (rows_of (length xs) f)) (ltb j f.columns) t in
+            let b = and_parts (ltb i _) (ltb j _) t in
             let li : i < f.rows = ltb-true i f.rows (ap (ltb i) (sym rows) ∙ b.0) in
             let lj : j < f.columns = ltb-true j f.columns b.1 in
             cond-true _ _ None t ∙ cond-true _ None _ (all (slot_at f i j) (slot_within (length xs) f i j fits li lj))

@@ -21,15 +21,16 @@ packet_of empty ws = cond (empty ws) None (Some (drop 1 ws))
 abbrev pub rows_of : ℕ → Format → ℕ
 rows_of capacity f = cond (format_fits capacity f.rows f.columns f.size) f.rows 0
 
-abbrev pub within_rows : ℕ → Format → ℕ → ℕ → Bool
-within_rows capacity f i j = nat_lt i (rows_of capacity f) && nat_lt j f.columns
+-- whether a format in this many words has the slot (i, j)
+abbrev pub has_slot : ℕ → Format → ℕ → ℕ → Bool
+has_slot capacity f i j = nat_lt i (rows_of capacity f) && nat_lt j f.columns
 
 abbrev pub grid_of : (List ℕ → Bool) → Format → List ℕ → Grid
 grid_of empty f xs = record {
   rows = rows_of (length xs) f;
   columns = f.columns;
   size = f.size;
-  slots = λ i j. cond (within_rows (length xs) f i j) (packet_of empty (slot_words xs (slot_at f i j) f.size)) None;
+  slots = λ i j. cond (has_slot (length xs) f i j) (packet_of empty (slot_words xs (slot_at f i j) f.size)) None;
 }
 
 -- the words after the slot that begins at `at` was overwritten
@@ -38,16 +39,16 @@ slot_put xs at ws = take at xs ++ (ws ++ drop (at + length ws) xs)
 
 -- the slot (i, j) of a format is inside its grid, and begins at `at`
 pub record Place (capacity : ℕ) (f : Format) (i j at : ℕ) : Type 0 where
-  pub is_inside : within_rows capacity f i j ≡ true
+  pub is_inside : has_slot capacity f i j ≡ true
   pub at_is : at ≡ slot_at f i j
   pub within : at + f.size + 1 ≤ capacity
 
 abbrev pub Outside : ℕ → Format → ℕ → ℕ → Type 0
-Outside capacity f i j = within_rows capacity f i j ≡ false
+Outside capacity f i j = has_slot capacity f i j ≡ false
 
 -- the slot (i, j) of a format is inside its grid, and its words are ws
 pub record InSlot (xs : List ℕ) (f : Format) (i j : ℕ) (ws : List ℕ) : Type 0 where
-  pub is_inside : within_rows (length xs) f i j ≡ true
+  pub is_inside : has_slot (length xs) f i j ≡ true
   pub words_are : ws ≡ slot_words xs (slot_at f i j) f.size
   pub length_is : length ws ≡ f.size + 1
 

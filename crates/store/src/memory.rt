@@ -9,6 +9,7 @@ use crate::medium::Medium;
 use crate::slots::{Format, Slot};
 use refusal::Refusal;
 
+// Memory: a slot takes a packet while its mark is 0.
 struct Memory;
 
 impl Medium for Memory {

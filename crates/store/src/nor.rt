@@ -26,7 +26,8 @@ struct Guard<'a> {
 
 impl<'a> Guard<'a> {
     fn open(lock: &'a mut u32) -> Guard<'a>
-        ensures { result.lock.ghost_name ≡ lock.entry.ghost_name }
+        ensures lent { result.lock.ghost_name ≡ lock.entry.ghost_name }
+        ensures open { result.lock.now ≡ 1 }
     {
         *lock = 1;
         Guard { lock }
@@ -50,25 +51,28 @@ fn is_erased(words: &[u32]) -> bool
 }
 
 // Programs each word: old AND new.
+#[tactic(auto, using(crate::proofs::Flash::over_none, crate::proofs::Flash::programs_more), unfolding(crate::specs::Nor::programmed))]
 fn program(words: &mut [u32], new: &[u32])
     requires { length words.old ≡ length new.now }
     ensures { words.new ≡ programmed words.old new.now }
 {
     // By an index: of what a loop over `iter_mut().zip(new)` leaves, a proof knows the length alone.
     for (i, x) in new.iter().enumerate() {
-        words[i] = words[i] & *x;
+        words[i] &= *x;
     }
 }
 
 // Programs the packet and then the mark of a slot.
+#[tactic(auto, using(crate::proofs::Flash::slot_programmed))]
 fn program_slot(slot: &mut [u32], packet: &[u32])
     requires { length slot.old ≡ length packet.now + 1 }
     ensures { slot.new ≡ programmed slot.old (0 ∷ packet.now) }
 {
     program(&mut slot[1..], packet);
-    slot[0] = slot[0] & FILLED;
+    slot[0] &= FILLED;
 }
 
+// Flash: a slot takes a packet only while all its words are erased.
 struct Nor;
 
 impl Medium for Nor {
@@ -84,6 +88,7 @@ impl Medium for Nor {
         is_erased(slot)
     }
 
+    #[tactic(auto, using(crate::proofs::Flash::programs_erased, crate::proofs::Flash::word_before))]
     fn fill(slot: &mut [u32], packet: &[u32]) {
         program_slot(slot, packet);
     }
@@ -97,7 +102,7 @@ impl Medium for Nor {
 fn past_lock(words: &[u32]) -> &[u32]
     ensures { result.now ≡ drop 1 words.now }
 {
-    if words.is_empty() { words } else { &words[1..] }
+    words.get(1..).unwrap_or(words)
 }
 
 // Erases the run for a grid of this format.
@@ -116,6 +121,7 @@ pub fn format_words(words: &mut [u32], format: Format) -> Result<(), Refusal>
 }
 
 // Fills an empty slot of a grid in the run.
+#[tactic(auto, using(crate::proofs::Flash::put_run))]
 pub fn put_words(
     words: &mut [u32],
     format: Format,

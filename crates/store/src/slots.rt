@@ -17,7 +17,8 @@ pub struct Slot {
 impl Slot {
     // The slot with its row and its column exchanged.
     pub fn transposed(self) -> Slot
-        ensures { (result.row ≡ self.column) × (result.column ≡ self.row) }
+        ensures row { result.row ≡ self.column }
+        ensures column { result.column ≡ self.row }
     {
         Slot {
             row: self.column,
@@ -47,7 +48,9 @@ impl Format {
 
     // The format with its rows and its columns exchanged.
     pub fn transposed(self) -> Format
-        ensures { (result.rows ≡ self.columns) × (result.columns ≡ self.rows) × (result.size ≡ self.size) }
+        ensures rows { result.rows ≡ self.columns }
+        ensures columns { result.columns ≡ self.rows }
+        ensures size { result.size ≡ self.size }
     {
         Format {
             rows: self.columns,
@@ -94,6 +97,7 @@ impl Format {
         Ok(at..at + self.size + 1)
     }
 
+    #[tactic(auto, using(crate::proofs::Places::slot_within))]
     fn slot_at(self, capacity: usize, slot: Slot) -> usize
         requires fits { format_fits capacity self.rows self.columns self.size ≡ true }
         requires row { slot.row < self.rows }

@@ -15,6 +15,7 @@ impl<S: SlotStore> SlotStore for Transposed<S> {
 
     ghost lock = { λ t. S.SlotStore.lock t.0 };
 
+    #[tactic(auto, using(crate::proofs::Formats::exchanged))]
     fn format(&mut self, format: Format) -> Result<(), Refusal> {
         self.0.format(format.transposed())
     }
