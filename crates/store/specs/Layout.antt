@@ -1,11 +1,13 @@
--- How slots lie in a run of words: one after another, row by row, each a mark and then its packet.
-use Rattle.std.specs.Prelude.{◌≡◌, ℕ, ◌+◌, ◌*◌, ◌≤◌, Bool, true, false, cond, ◌&&◌, List, ◌++◌, length, take, drop, Some, None, Option, ◌==◌, nat_lt, slice_index}
+-- How slots lie in words: one after another, row by row, each a mark and then its packet.
+use Rattle.std.specs.Prelude.{◌≡◌, ℕ, ◌+◌, ◌*◌, ◌≤◌, Bool, true, false, cond, ◌&&◌, List, ◌++◌, length, take, drop, replicate, Some, None, Ok, Err, Option, Result, ◌==◌, nat_lt, slice_index}
 use Rattle.std.specs.List.{between}
+use Rattle.refusal.specs.declared.Refusal.{Refusal}
+use Rattle.store.specs.declared.slots.Format.{Format}
 use Rattle.store.specs.Grids.{Grid, format_fits}
 
 -- where the slot (i, j) begins
-abbrev pub slot_at : ℕ → ℕ → ℕ → ℕ → ℕ
-slot_at c n i j = (i * c + j) * (n + 1)
+abbrev pub slot_at : Format → ℕ → ℕ → ℕ
+slot_at f i j = (i * f.columns + j) * (f.size + 1)
 
 -- the mark and the packet of the slot that begins at `at`
 abbrev pub slot_words : List ℕ → ℕ → ℕ → List ℕ
@@ -15,16 +17,20 @@ slot_words xs at n = between at (at + n + 1) xs
 abbrev pub packet_of : (List ℕ → Bool) → List ℕ → Option (List ℕ)
 packet_of empty ws = cond (empty ws) None (Some (drop 1 ws))
 
--- the rows of a format; none if it does not fit
-abbrev pub rows_of : ℕ → ℕ → ℕ → ℕ → ℕ
-rows_of capacity r c n = cond (format_fits capacity r c n) r 0
+-- the rows of a format in this many words; none if it does not fit
+abbrev pub rows_of : ℕ → Format → ℕ
+rows_of capacity f = cond (format_fits capacity f.rows f.columns f.size) f.rows 0
 
-abbrev pub grid_of : (List ℕ → Bool) → ℕ → ℕ → ℕ → ℕ → List ℕ → Grid
-grid_of empty capacity r c n xs = record {
-  rows = rows_of capacity r c n;
-  columns = c;
-  size = n;
-  slots = λ i j. cond (nat_lt i (rows_of capacity r c n) && nat_lt j c) (packet_of empty (slot_words xs (slot_at c n i j) n)) None;
+-- whether a format in this many words has the slot (i, j)
+abbrev pub has_slot : ℕ → Format → ℕ → ℕ → Bool
+has_slot capacity f i j = nat_lt i (rows_of capacity f) && nat_lt j f.columns
+
+abbrev pub grid_of : (List ℕ → Bool) → Format → List ℕ → Grid
+grid_of empty f xs = record {
+  rows = rows_of (length xs) f;
+  columns = f.columns;
+  size = f.size;
+  slots = λ i j. cond (has_slot (length xs) f i j) (packet_of empty (slot_words xs (slot_at f i j) f.size)) None;
 }
 
 -- the words after the slot that begins at `at` was overwritten
@@ -32,17 +38,33 @@ abbrev pub slot_put : List ℕ → ℕ → List ℕ → List ℕ
 slot_put xs at ws = take at xs ++ (ws ++ drop (at + length ws) xs)
 
 -- the slot (i, j) of a format is inside its grid, and begins at `at`
-pub record Place (capacity r c n i j at : ℕ) : Type 0 where
-  pub is_inside : (nat_lt i (rows_of capacity r c n) && nat_lt j c) ≡ true
-  pub at_is : at ≡ slot_at c n i j
-  pub within : at + n + 1 ≤ capacity
+pub record Place (capacity : ℕ) (f : Format) (i j at : ℕ) : Type 0 where
+  pub is_inside : has_slot capacity f i j ≡ true
+  pub at_is : at ≡ slot_at f i j
+  pub within : at + f.size + 1 ≤ capacity
 
-abbrev pub Outside : ℕ → ℕ → ℕ → ℕ → ℕ → ℕ → Type 0
-Outside capacity r c n i j = (nat_lt i (rows_of capacity r c n) && nat_lt j c) ≡ false
+abbrev pub Outside : ℕ → Format → ℕ → ℕ → Type 0
+Outside capacity f i j = has_slot capacity f i j ≡ false
+
+-- the slot (i, j) of a format is inside its grid, and its words are ws
+pub record InSlot (xs : List ℕ) (f : Format) (i j : ℕ) (ws : List ℕ) : Type 0 where
+  pub is_inside : has_slot (length xs) f i j ≡ true
+  pub words_are : ws ≡ slot_words xs (slot_at f i j) f.size
+  pub length_is : length ws ≡ f.size + 1
+
+-- the words after a format was to be made: all blank, or as they were
+abbrev pub words_after_clear : Result (Unit {0}) Refusal → ℕ → List ℕ → List ℕ
+words_after_clear (Ok u) blank xs = replicate (length xs) blank
+words_after_clear (Err e) blank xs = xs
+
+-- the words after the slot that begins at `at` was to be filled
+abbrev pub words_after_put : Result (Unit {0}) Refusal → List ℕ → ℕ → List ℕ → List ℕ
+words_after_put (Ok u) xs at ws = slot_put xs at ws
+words_after_put (Err e) xs at ws = xs
 
 -- in memory a slot is empty when its mark is 0
 abbrev pub unmarked : List ℕ → Bool
 unmarked ws = slice_index ws 0 == 0
 
-abbrev pub memory_grid : ℕ → ℕ → ℕ → List ℕ → Grid
-memory_grid r c n xs = grid_of unmarked (length xs) r c n xs
+abbrev pub memory_grid : Format → List ℕ → Grid
+memory_grid f xs = grid_of unmarked f xs

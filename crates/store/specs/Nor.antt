@@ -1,8 +1,8 @@
 -- Words of NOR flash, and what the calls of the NOR store leave in them. Word 0 is the lock.
-use Rattle.std.specs.Prelude.{ℕ, ◌+◌, ◌-◌, Bool, true, cond, ◌&&◌, List, [], ◌∷◌, length, drop, replicate, Some, None, Ok, Err, Option, Result, ◌==◌, bit_and, slice_index, slice_set}
+use Rattle.std.specs.Prelude.{◌≡◌, refl, ℕ, zero, suc, ◌+◌, ◌-◌, Bool, true, List, [], ◌∷◌, length, drop, replicate, Ok, Err, Result, ◌==◌, bit_and, slice_index, slice_set}
+use Rattle.std.specs.List.{list_all}
 use Rattle.refusal.specs.declared.Refusal.{Refusal}
-use Rattle.refusal.specs.declared.Refusal.TheVariants.{SlotFilled}
-use Rattle.refusal.specs.Numbers.{said}
+use Rattle.store.specs.declared.slots.Format.{Format}
 use Rattle.store.specs.Grids.{Grid}
 use Rattle.store.specs.Layout.{grid_of, slot_put}
 
@@ -12,8 +12,7 @@ lock_of ws = slice_index ws 0
 
 -- every word is erased
 abbrev pub erased : List ℕ → Bool
-erased [] = true
-erased (x ∷ xs) = x == 4294967295 && erased xs
+erased xs = list_all (λ x. x == 4294967295) xs
 
 -- each word of xs with the word of ys at its place; what lies past ys stays
 abbrev pub over : (ℕ → ℕ → ℕ) → List ℕ → List ℕ → List ℕ
@@ -26,16 +25,12 @@ unfoldable pub programmed : List ℕ → List ℕ → List ℕ
 programmed xs ys = over bit_and xs ys
 
 -- a slot is empty when its mark and its packet are erased
-abbrev pub nor_grid : ℕ → ℕ → ℕ → List ℕ → Grid
-nor_grid r c n ws = grid_of erased (length ws - 1) r c n (drop 1 ws)
+abbrev pub nor_grid : Format → List ℕ → Grid
+nor_grid f ws = grid_of erased f (drop 1 ws)
 
-abbrev pub fill_refusal : List ℕ → Option (ℕ × List ℕ)
-fill_refusal slot = cond (erased slot) None (Some (said SlotFilled))
-
--- a slot after it was to be filled
-abbrev pub slot_after : Result (Unit {0}) Refusal → List ℕ → List ℕ → List ℕ
-slot_after (Ok u) slot packet = 0 ∷ packet
-slot_after (Err e) slot packet = slot
+pub erased_blank : (n : ℕ) → erased (4294967295 ∷ replicate n 4294967295) ≡ true
+erased_blank zero = refl
+erased_blank (suc n) = erased_blank n
 
 -- all but the lock erased, and the lock shut; a refusal only shuts the lock
 abbrev pub run_after_format : Result (Unit {0}) Refusal → List ℕ → List ℕ

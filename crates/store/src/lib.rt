@@ -5,8 +5,10 @@ ghost use Rattle.std.specs.Prelude.{◌≡◌, ℕ};
 ghost use Rattle.refusal.specs.Numbers.{refused_with};
 ghost use Rattle.store.specs.Grids.{Grid, format_refusal, AfterFormat, held_answer, put_refusal, AfterPut, get_refusal, after_get};
 
+use crate::slots::{Format, Slot};
 use refusal::Refusal;
 
+mod medium;
 pub mod memory;
 pub mod nor;
 pub mod slots;
@@ -26,25 +28,25 @@ pub trait SlotStore {
     ghost lock: { Self → ℕ };
 
     // Makes a new grid, with every slot empty.
-    fn format(&mut self, rows: usize, columns: usize, size: usize) -> Result<(), Refusal>
-        ensures answer { refused_with result ≡ format_refusal (capacity self.old) rows columns size }
-        ensures after { AfterFormat result (grid self.old) rows columns size (grid self.new) }
+    fn format(&mut self, format: Format) -> Result<(), Refusal>
+        ensures answer { refused_with result ≡ format_refusal (capacity self.old) format.rows format.columns format.size }
+        ensures after { AfterFormat result (grid self.old) format.rows format.columns format.size (grid self.new) }
         ensures kept { capacity self.new ≡ capacity self.old }
         ensures shut { lock self.new ≡ 0 };
 
     // Whether the slot is filled.
-    fn held(&self, row: usize, column: usize) -> Result<bool, Refusal>
-        ensures answer { result ≡ held_answer (grid self.now) row column };
+    fn held(&self, slot: Slot) -> Result<bool, Refusal>
+        ensures answer { result ≡ held_answer (grid self.now) slot.row slot.column };
 
     // Fills an empty slot.
-    fn put(&mut self, row: usize, column: usize, words: &[u32]) -> Result<(), Refusal>
-        ensures answer { refused_with result ≡ put_refusal (grid self.old) row column words.now }
-        ensures after { AfterPut result (grid self.old) row column words.now (grid self.new) }
+    fn put(&mut self, slot: Slot, words: &[u32]) -> Result<(), Refusal>
+        ensures answer { refused_with result ≡ put_refusal (grid self.old) slot.row slot.column words.now }
+        ensures after { AfterPut result (grid self.old) slot.row slot.column words.now (grid self.new) }
         ensures kept { capacity self.new ≡ capacity self.old }
         ensures shut { lock self.new ≡ 0 };
 
     // Copies the packet of a filled slot into `run`.
-    fn get(&self, row: usize, column: usize, run: &mut [u32]) -> Result<(), Refusal>
-        ensures answer { refused_with result ≡ get_refusal (grid self.now) row column run.old }
-        ensures after { run.new ≡ after_get result (grid self.now) row column run.old };
+    fn get(&self, slot: Slot, run: &mut [u32]) -> Result<(), Refusal>
+        ensures answer { refused_with result ≡ get_refusal (grid self.now) slot.row slot.column run.old }
+        ensures after { run.new ≡ after_get result (grid self.now) slot.row slot.column run.old };
 }

@@ -1,11 +1,39 @@
 // A store in memory, over a lent run of words. A slot's mark is 1 when it is filled, 0 when it is empty.
 ghost use Rattle.std.specs.Prelude.{◌≡◌, length};
+ghost use Rattle.std.proofs.Common.{refl};
 ghost use Rattle.store.specs.Grids.{NoSlots};
-ghost use Rattle.store.specs.Layout.{memory_grid};
+ghost use Rattle.store.specs.Layout.{memory_grid, unmarked};
 
 use crate::SlotStore;
-use crate::slots::Format;
+use crate::medium::Medium;
+use crate::slots::{Format, Slot};
 use refusal::Refusal;
+
+// Memory: a slot takes a packet while its mark is 0.
+struct Memory;
+
+impl Medium for Memory {
+    ghost empty = { unmarked };
+
+    ghost mark = { 1 };
+
+    ghost BLANK = { 0 };
+
+    const BLANK: u32 = 0;
+
+    fn is_empty(slot: &[u32]) -> bool {
+        slot[0] == 0
+    }
+
+    fn fill(slot: &mut [u32], packet: &[u32]) {
+        slot[0] = 1;
+        slot[1..].copy_from_slice(packet);
+    }
+
+    ghost filled_by_mark = { λ ws. refl };
+
+    ghost empty_when_blank = { λ n. refl };
+}
 
 #[derive(Drop)]
 pub struct MemoryStore<'a> {
@@ -17,7 +45,7 @@ impl<'a> MemoryStore<'a> {
     // A store with no rows and no columns.
     pub fn new(words: &'a mut [u32]) -> MemoryStore<'a>
         ensures words { result.words.now ≡ words.old }
-        ensures grid { NoSlots (memory_grid result.format.rows result.format.columns result.format.size result.words.now) }
+        ensures grid { NoSlots (memory_grid result.format result.words.now) }
     {
         MemoryStore {
             words,
@@ -29,57 +57,25 @@ impl<'a> MemoryStore<'a> {
 impl SlotStore for MemoryStore<'_> {
     ghost capacity = { λ s. length s.words.now };
 
-    ghost grid = { λ s. memory_grid s.format.rows s.format.columns s.format.size s.words.now };
+    ghost grid = { λ s. memory_grid s.format s.words.now };
 
     ghost lock = { λ s. 0 };
 
-    fn format(&mut self, rows: usize, columns: usize, size: usize) -> Result<(), Refusal> {
-        let format = Format {
-            rows,
-            columns,
-            size,
-        };
-        if !format.fits(self.words.len()) {
-            return Err(Refusal::BadFormat);
-        }
-        self.words.fill(0);
+    fn format(&mut self, format: Format) -> Result<(), Refusal> {
+        format.clear::<Memory>(self.words)?;
         self.format = format;
         Ok(())
     }
 
-    fn held(&self, row: usize, column: usize) -> Result<bool, Refusal> {
-        match self.format.place(self.words.len(), row, column) {
-            Some(at) => Ok(self.words[at] != 0),
-            None => Err(Refusal::OutsideGrid),
-        }
+    fn held(&self, slot: Slot) -> Result<bool, Refusal> {
+        self.format.held::<Memory>(self.words, slot)
     }
 
-    fn put(&mut self, row: usize, column: usize, words: &[u32]) -> Result<(), Refusal> {
-        let Some(at) = self.format.place(self.words.len(), row, column) else {
-            return Err(Refusal::OutsideGrid);
-        };
-        if words.len() != self.format.size {
-            return Err(Refusal::WrongSize);
-        }
-        if self.words[at] != 0 {
-            return Err(Refusal::SlotFilled);
-        }
-        self.words[at] = 1;
-        self.words[at + 1..at + 1 + words.len()].copy_from_slice(words);
-        Ok(())
+    fn put(&mut self, slot: Slot, words: &[u32]) -> Result<(), Refusal> {
+        self.format.put::<Memory>(self.words, slot, words)
     }
 
-    fn get(&self, row: usize, column: usize, run: &mut [u32]) -> Result<(), Refusal> {
-        let Some(at) = self.format.place(self.words.len(), row, column) else {
-            return Err(Refusal::OutsideGrid);
-        };
-        if run.len() != self.format.size {
-            return Err(Refusal::WrongSize);
-        }
-        if self.words[at] == 0 {
-            return Err(Refusal::SlotEmpty);
-        }
-        run.copy_from_slice(&self.words[at + 1..at + 1 + run.len()]);
-        Ok(())
+    fn get(&self, slot: Slot, run: &mut [u32]) -> Result<(), Refusal> {
+        self.format.get::<Memory>(self.words, slot, run)
     }
 }

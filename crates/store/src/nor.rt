@@ -1,14 +1,16 @@
 // A store in NOR flash, over a lent run of words. Word 0 is the lock: 0 shut, 1 open.
 // Slots follow it. A slot's mark is all ones when it is empty, 0 when it is filled.
 // Programming a word leaves old AND new, so only an erased slot can take a packet.
-ghost use Rattle.std.specs.Prelude.{◌≡◌, ◌+◌, ◌-◌, ◌<◌, ◌∷◌, length, slice_set};
+ghost use Rattle.std.specs.Prelude.{◌≡◌, ◌+◌, ◌-◌, ◌<◌, ◌∷◌, drop, length, slice_set, OnOk};
+ghost use Rattle.std.proofs.Common.{refl};
 ghost use Rattle.refusal.specs.Numbers.{refused_with};
-ghost use Rattle.store.specs.Grids.{NoSlots, format_refusal, put_refusal, AfterPut};
+ghost use Rattle.store.specs.Grids.{Emptied, NoSlots, format_refusal, put_refusal, AfterPut};
 ghost use Rattle.store.specs.Layout.{slot_at};
-ghost use Rattle.store.specs.Nor.{erased, fill_refusal, lock_of, nor_grid, programmed, run_after_format, run_after_put, slot_after};
+ghost use Rattle.store.specs.Nor.{erased, erased_blank, lock_of, nor_grid, programmed, run_after_format, run_after_put};
 
 use crate::SlotStore;
-use crate::slots::Format;
+use crate::medium::Medium;
+use crate::slots::{Format, Slot};
 use refusal::Refusal;
 
 // A word of erased flash, which is also the mark of an empty slot.
@@ -17,18 +19,27 @@ const ERASED: u32 = 0xFFFFFFFF;
 // The mark of a filled slot.
 const FILLED: u32 = 0;
 
-// Words with their lock open. Dropping it shuts the lock.
+// A lock that is open. Dropping it shuts the lock.
 struct Guard<'a> {
-    words: &'a mut [u32],
+    lock: &'a mut u32,
+}
+
+impl<'a> Guard<'a> {
+    fn open(lock: &'a mut u32) -> Guard<'a>
+        ensures lent { result.lock.ghost_name ≡ lock.entry.ghost_name }
+        ensures open { result.lock.now ≡ 1 }
+    {
+        *lock = 1;
+        Guard { lock }
+    }
 }
 
 impl Drop for Guard<'_> {
     fn drop(self)
-        requires { 0 < length self.words.now }
-        ensures { self.exit.0.now ≡ slice_set self.entry.words.now 0 0 }
+        ensures { self.exit.0.now ≡ 0 }
     {
-        self.words[0] = 0;
-        let Guard { words: _ } = self;
+        let Guard { lock } = self;
+        *lock = 0;
     }
 }
 
@@ -36,44 +47,62 @@ impl Drop for Guard<'_> {
 fn is_erased(words: &[u32]) -> bool
     ensures { result ≡ erased words.now }
 {
-    for x in words {
-        if *x != ERASED {
-            return false;
-        }
-    }
-    true
+    words.iter().all(|word| *word == ERASED)
 }
 
 // Programs each word: old AND new.
+#[tactic(auto, using(crate::proofs::Flash::over_none, crate::proofs::Flash::programs_more), unfolding(crate::specs::Nor::programmed))]
 fn program(words: &mut [u32], new: &[u32])
     requires { length words.old ≡ length new.now }
     ensures { words.new ≡ programmed words.old new.now }
 {
+    // By an index: of what a loop over `iter_mut().zip(new)` leaves, a proof knows the length alone.
     for (i, x) in new.iter().enumerate() {
-        words[i] = words[i] & *x;
+        words[i] &= *x;
     }
 }
 
 // Programs the packet and then the mark of a slot.
+#[tactic(auto, using(crate::proofs::Flash::slot_programmed))]
 fn program_slot(slot: &mut [u32], packet: &[u32])
     requires { length slot.old ≡ length packet.now + 1 }
     ensures { slot.new ≡ programmed slot.old (0 ∷ packet.now) }
 {
     program(&mut slot[1..], packet);
-    slot[0] = slot[0] & FILLED;
+    slot[0] &= FILLED;
 }
 
-// Fills an empty slot.
-fn fill_slot(slot: &mut [u32], packet: &[u32]) -> Result<(), Refusal>
-    requires { length slot.old ≡ length packet.now + 1 }
-    ensures answer { refused_with result ≡ fill_refusal slot.old }
-    ensures after { slot.new ≡ slot_after result slot.old packet.now }
-{
-    if !is_erased(slot) {
-        return Err(Refusal::SlotFilled);
+// Flash: a slot takes a packet only while all its words are erased.
+struct Nor;
+
+impl Medium for Nor {
+    ghost empty = { erased };
+
+    ghost mark = { 0 };
+
+    ghost BLANK = { 4294967295 };
+
+    const BLANK: u32 = ERASED;
+
+    fn is_empty(slot: &[u32]) -> bool {
+        is_erased(slot)
     }
-    program_slot(slot, packet);
-    Ok(())
+
+    #[tactic(auto, using(crate::proofs::Flash::programs_erased, crate::proofs::Flash::word_before))]
+    fn fill(slot: &mut [u32], packet: &[u32]) {
+        program_slot(slot, packet);
+    }
+
+    ghost filled_by_mark = { λ ws. refl };
+
+    ghost empty_when_blank = { erased_blank };
+}
+
+// The words of the slots.
+fn past_lock(words: &[u32]) -> &[u32]
+    ensures { result.now ≡ drop 1 words.now }
+{
+    words.get(1..).unwrap_or(words)
 }
 
 // Erases the run for a grid of this format.
@@ -81,45 +110,35 @@ pub fn format_words(words: &mut [u32], format: Format) -> Result<(), Refusal>
     ensures answer { refused_with result ≡ format_refusal (length words.old - 1) format.rows format.columns format.size }
     ensures run { words.new ≡ run_after_format result words.old }
     ensures shut { lock_of words.new ≡ 0 }
+    ensures after { OnOk result (Emptied format.rows format.columns format.size (nor_grid format words.new)) }
 {
     if words.is_empty() {
         return Err(Refusal::BadFormat);
     }
-    let guard = Guard { words };
-    guard.words[0] = 1;
-    if !format.fits(guard.words.len() - 1) {
-        return Err(Refusal::BadFormat);
-    }
-    guard.words[1..].fill(ERASED);
-    Ok(())
+    let (lock, slots) = words.split_at_mut(1);
+    let _guard = Guard::open(&mut lock[0]);
+    format.clear::<Nor>(slots)
 }
 
 // Fills an empty slot of a grid in the run.
+#[tactic(auto, using(crate::proofs::Flash::put_run))]
 pub fn put_words(
     words: &mut [u32],
     format: Format,
-    row: usize,
-    column: usize,
+    slot: Slot,
     packet: &[u32],
 ) -> Result<(), Refusal>
-    ensures answer { refused_with result ≡ put_refusal (nor_grid format.rows format.columns format.size words.old) row column packet.now }
-    ensures run { words.new ≡ run_after_put result words.old (slot_at format.columns format.size row column) packet.now }
+    ensures answer { refused_with result ≡ put_refusal (nor_grid format words.old) slot.row slot.column packet.now }
+    ensures run { words.new ≡ run_after_put result words.old (slot_at format slot.row slot.column) packet.now }
     ensures shut { lock_of words.new ≡ 0 }
-    ensures after { AfterPut result (nor_grid format.rows format.columns format.size words.old) row column packet.now (nor_grid format.rows format.columns format.size words.new) }
+    ensures after { AfterPut result (nor_grid format words.old) slot.row slot.column packet.now (nor_grid format words.new) }
 {
     if words.is_empty() {
         return Err(Refusal::OutsideGrid);
     }
-    let capacity = words.len() - 1;
-    let guard = Guard { words };
-    guard.words[0] = 1;
-    let Some(at) = format.place(capacity, row, column) else {
-        return Err(Refusal::OutsideGrid);
-    };
-    if packet.len() != format.size {
-        return Err(Refusal::WrongSize);
-    }
-    fill_slot(&mut guard.words[1 + at..2 + at + packet.len()], packet)
+    let (lock, slots) = words.split_at_mut(1);
+    let _guard = Guard::open(&mut lock[0]);
+    format.put::<Nor>(slots, slot, packet)
 }
 
 // Flash with a grid of slots. Reading leaves the lock alone; what writes shuts it again.
@@ -133,7 +152,7 @@ impl<'a> NorStore<'a> {
     // A store with no rows and no columns, its lock shut.
     pub fn new(words: &'a mut [u32]) -> NorStore<'a>
         ensures run { result.words.now ≡ slice_set words.old 0 0 }
-        ensures grid { NoSlots (nor_grid result.format.rows result.format.columns result.format.size result.words.now) }
+        ensures grid { NoSlots (nor_grid result.format result.words.now) }
     {
         if !words.is_empty() {
             words[0] = 0;
@@ -148,55 +167,25 @@ impl<'a> NorStore<'a> {
 impl SlotStore for NorStore<'_> {
     ghost capacity = { λ s. length s.words.now - 1 };
 
-    ghost grid = { λ s. nor_grid s.format.rows s.format.columns s.format.size s.words.now };
+    ghost grid = { λ s. nor_grid s.format s.words.now };
 
     ghost lock = { λ s. lock_of s.words.now };
 
-    fn format(&mut self, rows: usize, columns: usize, size: usize) -> Result<(), Refusal> {
-        let format = Format {
-            rows,
-            columns,
-            size,
-        };
-        match format_words(self.words, format) {
-            Ok(()) => {
-                self.format = format;
-                Ok(())
-            }
-            Err(refusal) => Err(refusal),
-        }
-    }
-
-    fn held(&self, row: usize, column: usize) -> Result<bool, Refusal> {
-        let Some(at) = self
-            .format
-            .place(self.words.len().saturating_sub(1), row, column)
-        else {
-            return Err(Refusal::OutsideGrid);
-        };
-        Ok(!is_erased(&self.words[1 + at..2 + at + self.format.size]))
-    }
-
-    fn put(&mut self, row: usize, column: usize, words: &[u32]) -> Result<(), Refusal> {
-        let format = self.format;
-        put_words(self.words, format, row, column, words)
-    }
-
-    fn get(&self, row: usize, column: usize, run: &mut [u32]) -> Result<(), Refusal> {
-        let Some(at) = self
-            .format
-            .place(self.words.len().saturating_sub(1), row, column)
-        else {
-            return Err(Refusal::OutsideGrid);
-        };
-        if run.len() != self.format.size {
-            return Err(Refusal::WrongSize);
-        }
-        let slot = &self.words[1 + at..2 + at + self.format.size];
-        if is_erased(slot) {
-            return Err(Refusal::SlotEmpty);
-        }
-        run.copy_from_slice(&slot[1..slot.len()]);
+    fn format(&mut self, format: Format) -> Result<(), Refusal> {
+        format_words(self.words, format)?;
+        self.format = format;
         Ok(())
+    }
+
+    fn held(&self, slot: Slot) -> Result<bool, Refusal> {
+        self.format.held::<Nor>(past_lock(self.words), slot)
+    }
+
+    fn put(&mut self, slot: Slot, words: &[u32]) -> Result<(), Refusal> {
+        put_words(self.words, self.format, slot, words)
+    }
+
+    fn get(&self, slot: Slot, run: &mut [u32]) -> Result<(), Refusal> {
+        self.format.get::<Nor>(past_lock(self.words), slot, run)
     }
 }

@@ -1,10 +1,34 @@
 // How slots lie in a run of words: one after another, row by row, each a mark and then its packet.
-ghost use Rattle.std.specs.Prelude.{◌≡◌, ◌+◌, ◌*◌, ◌<◌, ◌≤◌, true, MatchOption};
+ghost use Rattle.std.specs.Prelude.{◌≡◌, ◌+◌, ◌*◌, ◌<◌, ◌≤◌, true, MatchOption, MatchResult, length};
+ghost use Rattle.refusal.specs.declared.Refusal.TheVariants.{OutsideGrid};
 ghost use Rattle.store.specs.Grids.{format_fits};
-ghost use Rattle.store.specs.Layout.{Outside, Place, slot_at};
+ghost use Rattle.store.specs.Layout.{InSlot, Outside, Place, slot_at};
+
+use refusal::Refusal;
+use std::ops::Range;
+
+// A slot of a grid, by its row and its column.
+#[derive(Clone, Copy, PartialEq, Eq, Debug)]
+pub struct Slot {
+    pub row: usize,
+    pub column: usize,
+}
+
+impl Slot {
+    // The slot with its row and its column exchanged.
+    pub fn transposed(self) -> Slot
+        ensures row { result.row ≡ self.column }
+        ensures column { result.column ≡ self.row }
+    {
+        Slot {
+            row: self.column,
+            column: self.row,
+        }
+    }
+}
 
 // The three numbers of a format; all are 0 in a new store.
-#[derive(Clone, Copy)]
+#[derive(Clone, Copy, PartialEq, Eq, Debug)]
 pub struct Format {
     pub rows: usize,
     pub columns: usize,
@@ -22,6 +46,19 @@ impl Format {
         }
     }
 
+    // The format with its rows and its columns exchanged.
+    pub fn transposed(self) -> Format
+        ensures rows { result.rows ≡ self.columns }
+        ensures columns { result.columns ≡ self.rows }
+        ensures size { result.size ≡ self.size }
+    {
+        Format {
+            rows: self.columns,
+            columns: self.rows,
+            size: self.size,
+        }
+    }
+
     // Whether a store of this capacity takes the format.
     pub fn fits(self, capacity: usize) -> bool
         ensures { result ≡ format_fits capacity self.rows self.columns self.size }
@@ -36,22 +73,38 @@ impl Format {
     }
 
     // Where a slot begins; none outside the grid.
-    pub fn place(self, capacity: usize, row: usize, column: usize) -> Option<usize>
-        ensures { MatchOption result (Outside capacity self.rows self.columns self.size row column) (λ at. Place capacity self.rows self.columns self.size row column at) }
+    pub fn place(self, capacity: usize, slot: Slot) -> Option<usize>
+        ensures { MatchOption result (Outside capacity self slot.row slot.column) (Place capacity self slot.row slot.column) }
     {
-        if !self.fits(capacity) || row >= self.rows || column >= self.columns {
+        if !self.fits(capacity) || slot.row >= self.rows || slot.column >= self.columns {
             return None;
         }
-        Some(self.slot_at(capacity, row, column))
+        Some(self.slot_at(capacity, slot))
     }
 
-    fn slot_at(self, capacity: usize, row: usize, column: usize) -> usize
+    // The words of a slot, its mark and its packet.
+    pub(crate) fn slot<'w>(self, slots: &'w [u32], slot: Slot) -> Result<&'w [u32], Refusal>
+        ensures { MatchResult result (λ words. InSlot slots.now self slot.row slot.column words.now) (λ refusal. Outside (length slots.now) self slot.row slot.column × (refusal ≡ OutsideGrid)) }
+    {
+        Ok(&slots[self.range(slots.len(), slot)?])
+    }
+
+    // Where the words of a slot lie, its mark and its packet.
+    pub(crate) fn range(self, capacity: usize, slot: Slot) -> Result<Range<usize>, Refusal>
+        ensures { MatchResult result (λ range. Place capacity self slot.row slot.column range.start × (range.end ≡ range.start + self.size + 1)) (λ refusal. Outside capacity self slot.row slot.column × (refusal ≡ OutsideGrid)) }
+    {
+        let at = self.place(capacity, slot).ok_or(Refusal::OutsideGrid)?;
+        Ok(at..at + self.size + 1)
+    }
+
+    #[tactic(auto, using(crate::proofs::Places::slot_within))]
+    fn slot_at(self, capacity: usize, slot: Slot) -> usize
         requires fits { format_fits capacity self.rows self.columns self.size ≡ true }
-        requires row { row < self.rows }
-        requires column { column < self.columns }
-        ensures is { result ≡ slot_at self.columns self.size row column }
+        requires row { slot.row < self.rows }
+        requires column { slot.column < self.columns }
+        ensures is { result ≡ slot_at self slot.row slot.column }
         ensures within { result + self.size + 1 ≤ capacity }
     {
-        (row * self.columns + column) * (self.size + 1)
+        (slot.row * self.columns + slot.column) * (self.size + 1)
     }
 }

@@ -1,22 +1,38 @@
 use crate::SlotStore;
 use crate::memory::MemoryStore;
 use crate::nor::NorStore;
+use crate::slots::{Format, Slot};
 use crate::transposed::Transposed;
 use refusal::Refusal;
 use std::process::Abort;
 
+fn slot(row: usize, column: usize) -> Slot {
+    Slot { row, column }
+}
+
+fn format(rows: usize, columns: usize, size: usize) -> Format {
+    Format {
+        rows,
+        columns,
+        size,
+    }
+}
+
 // A packet goes in at one place and comes out there alone.
 fn keeps<S: SlotStore>(rt: &impl Abort, store: &mut S) {
-    assert_eq!(rt; store.format(1, 3, 4), Ok(()));
-    assert_eq!(rt; store.put(0, 1, &[7, 8, 9, 10]), Ok(()));
-    assert_eq!(rt; store.put(0, 1, &[0, 0, 0, 0]), Err(Refusal::SlotFilled));
-    assert_eq!(rt; store.put(0, 1, &[0]), Err(Refusal::WrongSize));
-    assert_eq!(rt; store.put(1, 1, &[0]), Err(Refusal::OutsideGrid));
-    assert_eq!(rt; store.held(0, 1), Ok(true));
-    assert_eq!(rt; store.held(0, 2), Ok(false));
+    assert_eq!(rt; store.format(format(1, 3, 4)), Ok(()));
+    assert_eq!(rt; store.put(slot(0, 1), &[7, 8, 9, 10]), Ok(()));
+    assert_eq!(rt;
+        store.put(slot(0, 1), &[0, 0, 0, 0]),
+        Err(Refusal::SlotFilled)
+    );
+    assert_eq!(rt; store.put(slot(0, 1), &[0]), Err(Refusal::WrongSize));
+    assert_eq!(rt; store.put(slot(1, 1), &[0]), Err(Refusal::OutsideGrid));
+    assert_eq!(rt; store.held(slot(0, 1)), Ok(true));
+    assert_eq!(rt; store.held(slot(0, 2)), Ok(false));
     let mut run = [0; 4];
-    assert_eq!(rt; store.get(0, 2, &mut run), Err(Refusal::SlotEmpty));
-    assert_eq!(rt; store.get(0, 1, &mut run), Ok(()));
+    assert_eq!(rt; store.get(slot(0, 2), &mut run), Err(Refusal::SlotEmpty));
+    assert_eq!(rt; store.get(slot(0, 1), &mut run), Ok(()));
     assert!(rt; run[0] == 7 && run[1] == 8 && run[2] == 9 && run[3] == 10);
 }
 
@@ -24,7 +40,7 @@ fn keeps<S: SlotStore>(rt: &impl Abort, store: &mut S) {
 fn fifteen_words_hold_three_packets_of_four(rt: HostRuntime) {
     let mut words = [5; 15];
     let mut store = MemoryStore::new(&mut words);
-    assert_eq!(rt; store.held(0, 0), Err(Refusal::OutsideGrid));
+    assert_eq!(rt; store.held(slot(0, 0)), Err(Refusal::OutsideGrid));
     keeps(&rt, &mut store);
 }
 
@@ -39,22 +55,22 @@ fn flash_does_too_with_a_word_for_the_lock(rt: HostRuntime) {
 fn fourteen_words_do_not(rt: HostRuntime) {
     let mut words = [0; 14];
     let mut store = Transposed(MemoryStore::new(&mut words));
-    assert_eq!(rt; store.format(3, 1, 4), Err(Refusal::BadFormat));
+    assert_eq!(rt; store.format(format(3, 1, 4)), Err(Refusal::BadFormat));
 }
 
 #[test]
 fn numbers_of_any_size(rt: HostRuntime) {
     let mut words = [0; 9];
     let mut store = NorStore::new(&mut words);
-    assert_eq!(rt; store.format(1024, 1, 1), Err(Refusal::BadFormat));
-    assert_eq!(rt; store.format(1, 1, 257), Err(Refusal::BadFormat));
+    assert_eq!(rt; store.format(format(1024, 1, 1)), Err(Refusal::BadFormat));
+    assert_eq!(rt; store.format(format(1, 1, 257)), Err(Refusal::BadFormat));
     assert_eq!(rt;
-        store.format(4294967295, 4294967295, 4294967295),
+        store.format(format(4294967295, 4294967295, 4294967295)),
         Err(Refusal::BadFormat)
     );
-    assert_eq!(rt; store.format(2, 2, 1), Ok(()));
+    assert_eq!(rt; store.format(format(2, 2, 1)), Ok(()));
     assert_eq!(rt;
-        store.held(4294967295, 4294967295),
+        store.held(slot(4294967295, 4294967295)),
         Err(Refusal::OutsideGrid)
     );
 }
@@ -63,6 +79,6 @@ fn numbers_of_any_size(rt: HostRuntime) {
 fn an_empty_run_holds_nothing(rt: HostRuntime) {
     let mut words: [u32; 0] = [];
     let mut store = NorStore::new(&mut words);
-    assert_eq!(rt; store.format(1, 1, 1), Err(Refusal::BadFormat));
-    assert_eq!(rt; store.put(0, 0, &[]), Err(Refusal::OutsideGrid));
+    assert_eq!(rt; store.format(format(1, 1, 1)), Err(Refusal::BadFormat));
+    assert_eq!(rt; store.put(slot(0, 0), &[]), Err(Refusal::OutsideGrid));
 }

@@ -2,6 +2,7 @@
 ghost use Rattle.store.specs.Grids.{transposed};
 
 use crate::SlotStore;
+use crate::slots::{Format, Slot};
 use refusal::Refusal;
 
 #[derive(Drop)]
@@ -14,19 +15,20 @@ impl<S: SlotStore> SlotStore for Transposed<S> {
 
     ghost lock = { λ t. S.SlotStore.lock t.0 };
 
-    fn format(&mut self, rows: usize, columns: usize, size: usize) -> Result<(), Refusal> {
-        self.0.format(columns, rows, size)
+    #[tactic(auto, using(crate::proofs::Formats::exchanged))]
+    fn format(&mut self, format: Format) -> Result<(), Refusal> {
+        self.0.format(format.transposed())
     }
 
-    fn held(&self, row: usize, column: usize) -> Result<bool, Refusal> {
-        self.0.held(column, row)
+    fn held(&self, slot: Slot) -> Result<bool, Refusal> {
+        self.0.held(slot.transposed())
     }
 
-    fn put(&mut self, row: usize, column: usize, words: &[u32]) -> Result<(), Refusal> {
-        self.0.put(column, row, words)
+    fn put(&mut self, slot: Slot, words: &[u32]) -> Result<(), Refusal> {
+        self.0.put(slot.transposed(), words)
     }
 
-    fn get(&self, row: usize, column: usize, run: &mut [u32]) -> Result<(), Refusal> {
-        self.0.get(column, row, run)
+    fn get(&self, slot: Slot, run: &mut [u32]) -> Result<(), Refusal> {
+        self.0.get(slot.transposed(), run)
     }
 }

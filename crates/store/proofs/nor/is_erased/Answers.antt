@@ -1,19 +1,7 @@
-use Rattle.std.proofs.Common.{◌<◌, length, sym, ap, ◌∙◌, arith}
-use Rattle.std.proofs.lemmas.List.{drop_all}
-use Rattle.std.proofs.lemmas.Bool.{eq-eqb, ne_eqb}
-use Rattle.store.specs.Nor.{erased}
-use Rattle.store.proofs.Flash.{erased_more, and_with}
+use Rattle.std.proofs.Common.{eqb, rules, tests}
+use Rattle.std.proofs.lemmas.Iterator.{YieldsList-from_slice}
+use Rattle.std.proofs.lemmas.Iterator.Search.{all_from_yields_List}
 use Rattle.store.proofs.nor.is_erased.Goals as goal
 
-pub returns-then-x : goal.returns-then-x
-returns-then-x c =
-    let h : c.loop-x.x-index < length c.args.words.now = omega arith in
-    sym (c.loop-x.invariant ∙ erased_more c.args.words.now c.loop-x.x-index h ∙ and_with _ _ _ (ne_eqb _ _ c.if-x.true))
-
-pub loop-x-preserved : goal.loop-x-preserved
-loop-x-preserved c =
-    let h : c.loop-x.x-index < length c.args.words.now = omega arith in
-    c.loop-x.invariant ∙ erased_more c.args.words.now c.loop-x.x-index h ∙ and_with _ _ _ (eq-eqb _ _ c.if-x.false)
-
 pub returns : goal.returns
-returns c = sym (c.loop-x.invariant ∙ ap erased (drop_all c.loop-x.x-index c.args.words.now (omega arith)))
+returns c = all_from_yields_List (λ x. eqb x 4294967295) _ _ c.all.result c.all.ensures.ran (YieldsList-from_slice c.args.words.now cc) (λ x b q k. search (rules, tests))
