@@ -7,23 +7,23 @@ use Rattle.std.proofs.lemmas.Bool.Decides.{nat_tests}
 use Rattle.frame.specs.Frames.{Sight, shape, packet, refused, bits_of, kind_of, is_shape, is_packet, shape_of, packet_of, fits, frame_words, parse, Spells}
 
 pub back : (f : Sight) → fits f ≡ true → parse (frame_words f) ≡ f
-back (shape m n k b w) h =
-    let m-fits : m < 16 = grind (arith, nat_tests) in
-    let n-fits : n < 4096 = grind (arith, nat_tests) in
-    let k-fits : k < 4096 = grind (arith, nat_tests) in
-    let b-fits : b < 4096 = grind (arith, nat_tests) in
-    let w_fits : w < 256 = grind (arith, nat_tests) in
-    let head : ℕ = 1 * 2 ^ 28 + m * 2 ^ 24 + n * 2 ^ 12 + k in
-    let sizes : ℕ = 2 * 2 ^ 28 + b * 2 ^ 16 + w in
+back (shape d) h =
+    let rows : d.rows < 16 = grind (arith, nat_tests) in
+    let positions : d.positions < 4096 = grind (arith, nat_tests) in
+    let sources : d.sources < 4096 = grind (arith, nat_tests) in
+    let blocks : d.blocks < 4096 = grind (arith, nat_tests) in
+    let words : d.words < 256 = grind (arith, nat_tests) in
+    let head : ℕ = 1 * 2 ^ 28 + d.rows * 2 ^ 24 + d.positions * 2 ^ 12 + d.sources in
+    let sizes : ℕ = 2 * 2 ^ 28 + d.blocks * 2 ^ 16 + d.words in
     let a : kind_of head ≡ 1 = omega arith in
     let e : kind_of sizes ≡ 2 = omega arith in
     let z : bits_of sizes 8 8 ≡ 0 = omega arith in
-    let m-is : bits_of head 24 4 ≡ m = omega arith in
-    let n-is : bits_of head 12 12 ≡ n = omega arith in
-    let k-is : bits_of head 0 12 ≡ k = omega arith in
-    let b-is : bits_of sizes 16 12 ≡ b = omega arith in
-    let w-is : bits_of sizes 0 8 ≡ w = omega arith in
-    simp (a, e, z, m-is, n-is, k-is, b-is, w-is)
+    let rows-is : bits_of head 24 4 ≡ d.rows = omega arith in
+    let positions-is : bits_of head 12 12 ≡ d.positions = omega arith in
+    let sources-is : bits_of head 0 12 ≡ d.sources = omega arith in
+    let blocks-is : bits_of sizes 16 12 ≡ d.blocks = omega arith in
+    let words-is : bits_of sizes 0 8 ≡ d.words = omega arith in
+    simp (a, e, z, rows-is, positions-is, sources-is, blocks-is, words-is)
 back (packet block position payload) h =
     let block-fits : block < 4096 = grind (arith, nat_tests) in
     let position-fits : position < 4096 = grind (arith, nat_tests) in
@@ -38,8 +38,8 @@ back (refused e) h = cc
 
 -- the words of a frame are not refused
 pub not_refused : (ws : List ℕ) (e : ℕ × List ℕ) → parse ws ≡ refused e → (f : Sight) → fits f ≡ true → frame_words f ≡ ws → ⊥
-not_refused ws e r (shape m n k b w) h same =
-    let p = back (shape m n k b w) h in
+not_refused ws e r (shape d) h same =
+    let p = back (shape d) h in
     let q = ap parse same in
     let z : ◌≡◌ {A = ℕ} 0 1 = cc in omega arith
 not_refused ws e r (packet block position payload) h same =

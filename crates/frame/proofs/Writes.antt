@@ -3,6 +3,7 @@ use Rattle.std.proofs.Common.{◌≡◌, ℕ, ◌+◌, ◌-◌, ◌*◌, ◌%◌
 use borrow.Rule.Slice.PartMut.{put_mid}
 use Rattle.std.proofs.lemmas.Bool.{eq-eqb}
 use Rattle.std.proofs.lemmas.Bool.Decides.{nat_tests}
+use Rattle.layout.specs.declared.shape.Dimensions.{Dimensions}
 use Rattle.frame.specs.Frames.{Sight, shape, packet, fits, frame_words, write_refusal}
 
 pub accepted : (f : Sight) (run : List ℕ) → fits f ≡ true → length run ≡ length (frame_words f) → None ≡ write_refusal f run
@@ -16,16 +17,16 @@ two (x ∷ []) a b len = absurd (omega arith)
 two (x ∷ y ∷ []) a b len = refl
 two (x ∷ y ∷ z ∷ rest) a b len = absurd (omega arith)
 
-pub shape_written : (m n k b w : ℕ) (run : List ℕ) → fits (shape m n k b w) ≡ true → length run ≡ length (frame_words (shape m n k b w)) →
-    set (set run 0 (1 * 2 ^ 28 + (m * 2 ^ 24) % 2 ^ 32 + (n * 2 ^ 12) % 2 ^ 32 + k)) 1 (2 * 2 ^ 28 + (b * 2 ^ 16) % 2 ^ 32 + w) ≡ frame_words (shape m n k b w)
-shape_written m n k b w run h len =
-    let m-fits : m < 16 = grind (arith, nat_tests) in
-    let n-fits : n < 4096 = grind (arith, nat_tests) in
-    let b-fits : b < 4096 = grind (arith, nat_tests) in
-    let m-is : (m * 2 ^ 24) % 2 ^ 32 ≡ m * 2 ^ 24 = omega arith in
-    let n-is : (n * 2 ^ 12) % 2 ^ 32 ≡ n * 2 ^ 12 = omega arith in
-    let b-is : (b * 2 ^ 16) % 2 ^ 32 ≡ b * 2 ^ 16 = omega arith in
-    two run _ _ len ∙ simp (m-is, n-is, b-is)
+pub shape_written : (d : Dimensions) (run : List ℕ) → fits (shape d) ≡ true → length run ≡ length (frame_words (shape d)) →
+    set (set run 0 (1 * 2 ^ 28 + (d.rows * 2 ^ 24) % 2 ^ 32 + (d.positions * 2 ^ 12) % 2 ^ 32 + d.sources)) 1 (2 * 2 ^ 28 + (d.blocks * 2 ^ 16) % 2 ^ 32 + d.words) ≡ frame_words (shape d)
+shape_written d run h len =
+    let rows : d.rows < 16 = grind (arith, nat_tests) in
+    let positions : d.positions < 4096 = grind (arith, nat_tests) in
+    let blocks : d.blocks < 4096 = grind (arith, nat_tests) in
+    let rows-is : (d.rows * 2 ^ 24) % 2 ^ 32 ≡ d.rows * 2 ^ 24 = omega arith in
+    let positions-is : (d.positions * 2 ^ 12) % 2 ^ 32 ≡ d.positions * 2 ^ 12 = omega arith in
+    let blocks-is : (d.blocks * 2 ^ 16) % 2 ^ 32 ≡ d.blocks * 2 ^ 16 = omega arith in
+    two run _ _ len ∙ simp (rows-is, positions-is, blocks-is)
 
 rest : (run payload : List ℕ) (a : ℕ) → length run ≡ length (a ∷ payload) → put_mid 1 (length (set run 0 a) - 1) (set run 0 a) payload ≡ a ∷ payload
 rest [] payload a len = absurd (omega arith)

@@ -8,6 +8,7 @@ ghost use Rattle.std.specs.Prelude.{◌≡◌, ◌<◌, length};
 ghost use Rattle.refusal.specs.Numbers.{refused_with};
 ghost use Rattle.frame.specs.Frames.{seen, content_of, parse, bits_of, fits, frame_words, Spells, write_refusal, after_write, ReadsBack};
 
+use layout::shape::Dimensions;
 use refusal::Refusal;
 
 #[cfg(test)]
@@ -22,13 +23,7 @@ const PACKET: u32 = 3;
 
 #[derive(Clone, Copy)]
 pub enum Frame<'a> {
-    Shape {
-        rows: usize,
-        positions: usize,
-        sources: usize,
-        blocks: usize,
-        words: usize,
-    },
+    Shape(Dimensions),
     Packet {
         block: usize,
         position: usize,
@@ -62,13 +57,13 @@ pub fn read(words: &[u32]) -> Result<Frame<'_>, Refusal>
             if sizes >> 28 != SIZES || bits(sizes, 8, 8) != 0 {
                 return Err(Refusal::BadFrame);
             }
-            Ok(Frame::Shape {
+            Ok(Frame::Shape(Dimensions {
                 rows: bits(head, 24, 4),
                 positions: bits(head, 12, 12),
                 sources: bits(head, 0, 12),
                 blocks: bits(sizes, 16, 12),
                 words: bits(sizes, 0, 8),
-            })
+            }))
         }
         PACKET => {
             if bits(head, 24, 4) != 0 {
@@ -90,7 +85,7 @@ impl Frame<'_> {
         ensures { result ≡ length (frame_words (content_of self.now)) }
     {
         match self {
-            Frame::Shape { .. } => 2,
+            Frame::Shape(_) => 2,
             Frame::Packet { payload, .. } => 1 + payload.len(),
         }
     }
@@ -100,13 +95,13 @@ impl Frame<'_> {
         ensures { result ≡ fits (content_of self.now) }
     {
         match *self {
-            Frame::Shape {
-                rows,
-                positions,
-                sources,
-                blocks,
-                words,
-            } => rows < 16 && positions < 4096 && sources < 4096 && blocks < 4096 && words < 256,
+            Frame::Shape(d) => {
+                d.rows < 16
+                    && d.positions < 4096
+                    && d.sources < 4096
+                    && d.blocks < 4096
+                    && d.words < 256
+            }
             Frame::Packet {
                 block,
                 position,
@@ -129,18 +124,12 @@ impl Frame<'_> {
             return Err(Refusal::WrongRun { place: 0 });
         }
         match *self {
-            Frame::Shape {
-                rows,
-                positions,
-                sources,
-                blocks,
-                words,
-            } => {
+            Frame::Shape(d) => {
                 run[0] = (SHAPE << 28)
-                    + ((rows as u32) << 24)
-                    + ((positions as u32) << 12)
-                    + sources as u32;
-                run[1] = (SIZES << 28) + ((blocks as u32) << 16) + words as u32;
+                    + ((d.rows as u32) << 24)
+                    + ((d.positions as u32) << 12)
+                    + d.sources as u32;
+                run[1] = (SIZES << 28) + ((d.blocks as u32) << 16) + d.words as u32;
             }
             Frame::Packet {
                 block,

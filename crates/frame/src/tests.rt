@@ -1,4 +1,5 @@
 use crate::*;
+use layout::shape::Dimensions;
 use std::test::Fail;
 
 fn refused(words: &[u32]) -> bool {
@@ -10,25 +11,27 @@ fn refused(words: &[u32]) -> bool {
 
 #[test]
 fn a_shape_frame_there_and_back(rt: HostRuntime) -> Result<(), Fail> {
-    let frame: Frame<'static> = Frame::Shape {
+    let frame: Frame<'static> = Frame::Shape(Dimensions {
         rows: 4,
         positions: 3,
         sources: 1,
         blocks: 1,
         words: 1,
-    };
+    });
     let mut run = [0; 2];
     assert_eq!(rt; frame.length(), 2);
     assert_eq!(rt; frame.write(&mut run), Ok(()));
     assert!(rt; run[0] == 0x14003001 && run[1] == 0x20010001);
     match read(&run)? {
-        Frame::Shape {
-            rows,
-            positions,
-            sources,
-            blocks,
-            words,
-        } => {
+        Frame::Shape(
+            Dimensions {
+                rows,
+                positions,
+                sources,
+                blocks,
+                words,
+            },
+        ) => {
             assert!(rt; rows == 4 && positions == 3 && sources == 1 && blocks == 1 && words == 1);
             Ok(())
         },
@@ -48,7 +51,7 @@ fn a_packet_frame_there_and_back(rt: HostRuntime) -> Result<(), Fail> {
     assert_eq!(rt; frame.write(&mut run), Ok(()));
     assert!(rt; run[0] == 0x30000002 && run[1] == 7 && run[2] == 8);
     match read(&run)? {
-        Frame::Shape { .. } => Err(Fail::new("a shape")),
+        Frame::Shape(_) => Err(Fail::new("a shape")),
         Frame::Packet {
             block,
             position,

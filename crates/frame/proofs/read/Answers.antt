@@ -8,7 +8,7 @@ use Rattle.frame.proofs.read.Goals as goal
 pub returns-else-bits-ne0 : goal.returns-else-bits-ne0
 returns-else-bits-ne0 c =
     let ws = c.args.words.now in
-    let e : shape c.bits-in-1.result c.bits-in-1-2.result c.bits-in-1-3.result c.bits-in-1-4.result c.bits-in-1-5.result ≡ parse ws = search rules in
+    let e : shape (record { rows = c.bits-in-1.result; positions = c.bits-in-1-2.result; sources = c.bits-in-1-3.result; blocks = c.bits-in-1-4.result; words = c.bits-in-1-5.result }) ≡ parse ws = search rules in
     record { value = e; spelled = subst (λ (f : Sight). Spells ws f) (sym e) (spells ws) }
 
 pub returns-else-bits-ne0-2 : goal.returns-else-bits-ne0-2

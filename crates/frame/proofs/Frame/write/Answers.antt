@@ -9,7 +9,7 @@ returns-in-Shape c =
     let is = ap content_of c.in-Shape.is in
     let fit = sym c.if-not-fits.ensures in
     let len = c.if-run-length.false ∙ c.length.ensures in
-    let written = shape_written _ _ _ _ _ c.args.run.now (ap fits (sym is) ∙ fit) (len ∙ ap (λ s. length (frame_words s)) is) in
+    let written = shape_written _ c.args.run.now (ap fits (sym is) ∙ fit) (len ∙ ap (λ s. length (frame_words s)) is) in
     let e = written ∙ ap frame_words (sym is) in
     record { answer = accepted _ _ fit len; after = e; back = ap parse e ∙ back _ fit }
 
