@@ -44,35 +44,22 @@ pub fn read(words: &[u32]) -> Result<Frame<'_>, Refusal>
     ensures value { seen result ≡ parse words.now }
     ensures spelled { Spells words.now (seen result) }
 {
-    if words.len() == 0 {
-        return Err(Refusal::BadFrame);
-    }
-    let head = words[0];
-    match head >> 28 {
-        SHAPE => {
-            if words.len() != 2 {
-                return Err(Refusal::BadFrame);
+    match words {
+        [head, sizes] if *head >> 28 == SHAPE && *sizes >> 28 == SIZES && bits(*sizes, 8, 8) == 0 =>
+            {
+                Ok(Frame::Shape(Dimensions {
+                    rows: bits(*head, 24, 4),
+                    positions: bits(*head, 12, 12),
+                    sources: bits(*head, 0, 12),
+                    blocks: bits(*sizes, 16, 12),
+                    words: bits(*sizes, 0, 8),
+                }))
             }
-            let sizes = words[1];
-            if sizes >> 28 != SIZES || bits(sizes, 8, 8) != 0 {
-                return Err(Refusal::BadFrame);
-            }
-            Ok(Frame::Shape(Dimensions {
-                rows: bits(head, 24, 4),
-                positions: bits(head, 12, 12),
-                sources: bits(head, 0, 12),
-                blocks: bits(sizes, 16, 12),
-                words: bits(sizes, 0, 8),
-            }))
-        }
-        PACKET => {
-            if bits(head, 24, 4) != 0 {
-                return Err(Refusal::BadFrame);
-            }
+        [head, rest @ ..] if *head >> 28 == PACKET && bits(*head, 24, 4) == 0 => {
             Ok(Frame::Packet {
-                block: bits(head, 12, 12),
-                position: bits(head, 0, 12),
-                payload: &words[1..words.len()],
+                block: bits(*head, 12, 12),
+                position: bits(*head, 0, 12),
+                payload: rest,
             })
         }
         _ => Err(Refusal::BadFrame),
