@@ -47,7 +47,7 @@ const BLOCK: BitField = BitField { low: 12, count: 12 };
 
 const POSITION: BitField = BitField { low: 0, count: 12 };
 
-#[derive(Clone, Copy)]
+#[derive(Clone, Copy, PartialEq, Eq, Debug)]
 pub enum Frame<'a> {
     Shape(Dimensions),
     Packet {
@@ -62,24 +62,24 @@ pub fn read(words: &[u32]) -> Result<Frame<'_>, Refusal>
     ensures value { seen result ≡ parse words.now }
     ensures spelled { Spells words.now (seen result) }
 {
-    match words {
+    match *words {
         [head, sizes]
-            if KIND.get(*head) == Kind::Shape as usize
-                && KIND.get(*sizes) == Kind::Sizes as usize
-                && SIZES_UNUSED.get(*sizes) == 0 => {
+            if KIND.get(head) == Kind::Shape as usize
+                && KIND.get(sizes) == Kind::Sizes as usize
+                && SIZES_UNUSED.get(sizes) == 0 => {
             Ok(Frame::Shape(Dimensions {
-                rows: ROWS.get(*head),
-                positions: POSITIONS.get(*head),
-                sources: SOURCES.get(*head),
-                blocks: BLOCKS.get(*sizes),
-                words: WORDS.get(*sizes),
+                rows: ROWS.get(head),
+                positions: POSITIONS.get(head),
+                sources: SOURCES.get(head),
+                blocks: BLOCKS.get(sizes),
+                words: WORDS.get(sizes),
             }))
         }
-        [head, rest @ ..]
-            if KIND.get(*head) == Kind::Packet as usize && HEADER_UNUSED.get(*head) == 0 => {
+        [head, ref rest @ ..]
+            if KIND.get(head) == Kind::Packet as usize && HEADER_UNUSED.get(head) == 0 => {
             Ok(Frame::Packet {
-                block: BLOCK.get(*head),
-                position: POSITION.get(*head),
+                block: BLOCK.get(head),
+                position: POSITION.get(head),
                 payload: rest,
             })
         }
