@@ -89,6 +89,11 @@ Spells ws (shape d) = (fits (shape d) ≡ true) × (frame_words (shape d) ≡ ws
 Spells ws (packet block position payload) = (fits (packet block position payload) ≡ true) × (frame_words (packet block position payload) ≡ ws)
 Spells ws (refused e) = (f : Sight) → fits f ≡ true → frame_words f ≢ ws
 
+-- reading gives what the words say, and it has just these words
+pub record Reads (words : List ℕ) (answer : Result Frame Refusal) : Type 0 where
+  pub value : seen answer ≡ parse words
+  pub spelled : Spells words (seen answer)
+
 -- reading what was written gives it back
 abbrev pub ReadsBack : Result (Unit {0}) Refusal → Sight → List ℕ → Type 0
 ReadsBack (Ok u) f run = parse run ≡ f

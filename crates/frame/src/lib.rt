@@ -6,7 +6,7 @@
 
 ghost use Rattle.std.specs.Prelude.{◌≡◌, ◌<◌, length};
 ghost use Rattle.refusal.specs.Numbers.{refused_with};
-ghost use Rattle.frame.specs.Frames.{seen, content_of, parse, bits_of, fits, frame_words, Spells, write_refusal, after_write, ReadsBack};
+ghost use Rattle.frame.specs.Frames.{Reads, content_of, fits, frame_words, write_refusal, after_write, ReadsBack};
 
 use bits::BitField;
 use layout::shape::Dimensions;
@@ -58,32 +58,35 @@ pub enum Frame<'a> {
 }
 
 // The frame that has exactly these words; a packet's payload is a part of them.
-pub fn read(words: &[u32]) -> Result<Frame<'_>, Refusal>
-    ensures value { seen result ≡ parse words.now }
-    ensures spelled { Spells words.now (seen result) }
-{
-    match *words {
-        [head, sizes]
-            if KIND.get(head) == Kind::Shape as usize
-                && KIND.get(sizes) == Kind::Sizes as usize
-                && SIZES_UNUSED.get(sizes) == 0 => {
-            Ok(Frame::Shape(Dimensions {
-                rows: ROWS.get(head),
-                positions: POSITIONS.get(head),
-                sources: SOURCES.get(head),
-                blocks: BLOCKS.get(sizes),
-                words: WORDS.get(sizes),
-            }))
+impl<'a> TryFrom<&'a [u32]> for Frame<'a> {
+    type Error = Refusal;
+
+    ghost try_from_gives = { λ words answer. Reads words.now answer };
+
+    fn try_from(words: &'a [u32]) -> Result<Frame<'a>, Refusal> {
+        match *words {
+            [head, sizes]
+                if KIND.get(head) == Kind::Shape as usize
+                    && KIND.get(sizes) == Kind::Sizes as usize
+                    && SIZES_UNUSED.get(sizes) == 0 => {
+                Ok(Frame::Shape(Dimensions {
+                    rows: ROWS.get(head),
+                    positions: POSITIONS.get(head),
+                    sources: SOURCES.get(head),
+                    blocks: BLOCKS.get(sizes),
+                    words: WORDS.get(sizes),
+                }))
+            }
+            [head, ref rest @ ..]
+                if KIND.get(head) == Kind::Packet as usize && HEADER_UNUSED.get(head) == 0 => {
+                Ok(Frame::Packet {
+                    block: BLOCK.get(head),
+                    position: POSITION.get(head),
+                    payload: rest,
+                })
+            }
+            _ => Err(Refusal::BadFrame),
         }
-        [head, ref rest @ ..]
-            if KIND.get(head) == Kind::Packet as usize && HEADER_UNUSED.get(head) == 0 => {
-            Ok(Frame::Packet {
-                block: BLOCK.get(head),
-                position: POSITION.get(head),
-                payload: rest,
-            })
-        }
-        _ => Err(Refusal::BadFrame),
     }
 }
 
