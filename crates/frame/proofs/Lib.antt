@@ -1,1 +1,1 @@
-mod Writes
+mod Laws

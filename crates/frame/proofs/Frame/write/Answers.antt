@@ -1,6 +1,6 @@
 use Rattle.std.proofs.Common.{sym, ap, ◌∙◌, arith}
 use Rattle.frame.specs.Frames.{parse}
-use Rattle.frame.proofs.Writes.{whole, back}
+use Rattle.frame.proofs.Laws.{whole, back}
 use Rattle.frame.proofs.Frame.write.Goals as goal
 
 pub returns-in-Packet-clause-after : goal.returns-in-Packet-clause-after
