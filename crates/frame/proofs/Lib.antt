@@ -1,2 +1,1 @@
-pub mod Laws
-mod Writes
+mod Laws

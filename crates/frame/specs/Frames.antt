@@ -3,18 +3,19 @@ use Rattle.std.specs.Prelude.{◌≡◌, ℕ, ◌+◌, ◌*◌, ◌/◌, ◌%◌
 use Rattle.refusal.specs.declared.Refusal.{Refusal}
 use Rattle.refusal.specs.declared.Refusal.TheVariants.{BadFrame, WrongRun}
 use Rattle.refusal.specs.Numbers.{said}
+use Rattle.layout.specs.declared.shape.Dimensions.{Dimensions}
 use Rattle.frame.specs.declared.Frame.{Frame}
 use Rattle.frame.specs.declared.Frame.TheVariants.{Shape, Packet}
 
 -- What a frame holds, with the payload's words themselves in the place of a reference; or why there is no frame.
--- A shape has rows, positions, sources, blocks and words of a row; a packet has its block, its position and its payload.
+-- A shape has its dimensions; a packet has its block, its position and its payload.
 pub data Sight : Type 0 where
-  shape : ℕ → ℕ → ℕ → ℕ → ℕ → Sight
+  shape : Dimensions → Sight
   packet : ℕ → ℕ → List ℕ → Sight
   refused : (ℕ × List ℕ) → Sight
 
 abbrev pub content_of : Frame → Sight
-content_of (Shape m n k b w) = shape m n k b w
+content_of (Shape d) = shape d
 content_of (Packet block position payload) = packet block position payload.now
 
 abbrev pub seen : Result Frame Refusal → Sight
@@ -25,13 +26,14 @@ seen (Err e) = refused (said e)
 
 -- each number fits its bits
 abbrev pub fits : Sight → Bool
-fits (shape m n k b w) = nat_lt m 16 && (nat_lt n 4096 && (nat_lt k 4096 && (nat_lt b 4096 && nat_lt w 256)))
+fits (shape d) = nat_lt d.rows 16 && (nat_lt d.positions 4096 && (nat_lt d.sources 4096 && (nat_lt d.blocks 4096 && nat_lt d.words 256)))
 fits (packet block position payload) = nat_lt block 4096 && nat_lt position 4096
 fits (refused e) = false
 
 -- the words of a frame whose numbers fit; the factor of 2 ^ 28 is the kind
 abbrev pub frame_words : Sight → List ℕ
-frame_words (shape m n k b w) = (1 * 2 ^ 28 + m * 2 ^ 24 + n * 2 ^ 12 + k) ∷ (2 * 2 ^ 28 + b * 2 ^ 16 + w) ∷ []
+frame_words (shape d) =
+    (1 * 2 ^ 28 + d.rows * 2 ^ 24 + d.positions * 2 ^ 12 + d.sources) ∷ (2 * 2 ^ 28 + d.blocks * 2 ^ 16 + d.words) ∷ []
 frame_words (packet block position payload) = (3 * 2 ^ 28 + block * 2 ^ 12 + position) ∷ payload
 frame_words (refused e) = []
 
@@ -65,7 +67,13 @@ abbrev pub shape_of : List ℕ → Sight
 shape_of ws =
     let head = slice_index ws 0 in
     let sizes = slice_index ws 1 in
-    shape (bits_of head 24 4) (bits_of head 12 12) (bits_of head 0 12) (bits_of sizes 16 12) (bits_of sizes 0 8)
+    shape (record {
+      rows = bits_of head 24 4;
+      positions = bits_of head 12 12;
+      sources = bits_of head 0 12;
+      blocks = bits_of sizes 16 12;
+      words = bits_of sizes 0 8;
+    })
 
 abbrev pub packet_of : List ℕ → Sight
 packet_of ws = packet (bits_of (slice_index ws 0) 12 12) (bits_of (slice_index ws 0) 0 12) (drop 1 ws)
@@ -77,9 +85,14 @@ parse ws = cond (is_shape ws) (shape_of ws) (cond (is_packet ws) (packet_of ws) 
 
 -- what was read has these words; or no frame has them
 abbrev pub Spells : List ℕ → Sight → Type 0
-Spells ws (shape m n k b w) = (fits (shape m n k b w) ≡ true) × (frame_words (shape m n k b w) ≡ ws)
+Spells ws (shape d) = (fits (shape d) ≡ true) × (frame_words (shape d) ≡ ws)
 Spells ws (packet block position payload) = (fits (packet block position payload) ≡ true) × (frame_words (packet block position payload) ≡ ws)
 Spells ws (refused e) = (f : Sight) → fits f ≡ true → frame_words f ≢ ws
+
+-- reading gives what the words say, and it has just these words
+pub record Reads (words : List ℕ) (answer : Result Frame Refusal) : Type 0 where
+  pub value : seen answer ≡ parse words
+  pub spelled : Spells words (seen answer)
 
 -- reading what was written gives it back
 abbrev pub ReadsBack : Result (Unit {0}) Refusal → Sight → List ℕ → Type 0

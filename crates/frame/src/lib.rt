@@ -6,29 +6,50 @@
 
 ghost use Rattle.std.specs.Prelude.{◌≡◌, ◌<◌, length};
 ghost use Rattle.refusal.specs.Numbers.{refused_with};
-ghost use Rattle.frame.specs.Frames.{seen, content_of, parse, bits_of, fits, frame_words, Spells, write_refusal, after_write, ReadsBack};
+ghost use Rattle.frame.specs.Frames.{Reads, content_of, fits, frame_words, write_refusal, after_write, ReadsBack};
 
+use bits::BitField;
+use layout::shape::Dimensions;
 use refusal::Refusal;
 
+mod bits;
 #[cfg(test)]
 mod tests;
 
-const SHAPE: u32 = 1;
+// What a header word is, by its number.
+enum Kind {
+    Shape = 1,
+    // The second word of a shape frame.
+    Sizes = 2,
+    Packet = 3,
+}
 
-// The kind of a shape frame's second word.
-const SIZES: u32 = 2;
+const KIND: BitField = BitField { low: 28, count: 4 };
 
-const PACKET: u32 = 3;
+// Of a shape frame's first word.
+const ROWS: BitField = BitField { low: 24, count: 4 };
 
-#[derive(Clone, Copy)]
+const POSITIONS: BitField = BitField { low: 12, count: 12 };
+
+const SOURCES: BitField = BitField { low: 0, count: 12 };
+
+// Of its second word.
+const BLOCKS: BitField = BitField { low: 16, count: 12 };
+
+const SIZES_UNUSED: BitField = BitField { low: 8, count: 8 };
+
+const WORDS: BitField = BitField { low: 0, count: 8 };
+
+// Of a packet frame's header.
+const HEADER_UNUSED: BitField = BitField { low: 24, count: 4 };
+
+const BLOCK: BitField = BitField { low: 12, count: 12 };
+
+const POSITION: BitField = BitField { low: 0, count: 12 };
+
+#[derive(Clone, Copy, PartialEq, Eq, Debug)]
 pub enum Frame<'a> {
-    Shape {
-        rows: usize,
-        positions: usize,
-        sources: usize,
-        blocks: usize,
-        words: usize,
-    },
+    Shape(Dimensions),
     Packet {
         block: usize,
         position: usize,
@@ -36,51 +57,36 @@ pub enum Frame<'a> {
     },
 }
 
-// `count` bits of a word, the lowest of them the bit `low`.
-fn bits(word: u32, low: u32, count: u32) -> usize
-    requires { (low < 32) × (count < 32) }
-    ensures { result ≡ bits_of word low count }
-{
-    ((word >> low) & ((1 << count) - 1)) as usize
-}
-
 // The frame that has exactly these words; a packet's payload is a part of them.
-pub fn read(words: &[u32]) -> Result<Frame<'_>, Refusal>
-    ensures value { seen result ≡ parse words.now }
-    ensures spelled { Spells words.now (seen result) }
-{
-    if words.len() == 0 {
-        return Err(Refusal::BadFrame);
-    }
-    let head = words[0];
-    match head >> 28 {
-        SHAPE => {
-            if words.len() != 2 {
-                return Err(Refusal::BadFrame);
+impl<'a> TryFrom<&'a [u32]> for Frame<'a> {
+    type Error = Refusal;
+
+    ghost try_from_gives = { λ words answer. Reads words.now answer };
+
+    fn try_from(words: &'a [u32]) -> Result<Frame<'a>, Refusal> {
+        match *words {
+            [head, sizes]
+                if KIND.get(head) == Kind::Shape as usize
+                    && KIND.get(sizes) == Kind::Sizes as usize
+                    && SIZES_UNUSED.get(sizes) == 0 => {
+                Ok(Frame::Shape(Dimensions {
+                    rows: ROWS.get(head),
+                    positions: POSITIONS.get(head),
+                    sources: SOURCES.get(head),
+                    blocks: BLOCKS.get(sizes),
+                    words: WORDS.get(sizes),
+                }))
             }
-            let sizes = words[1];
-            if sizes >> 28 != SIZES || bits(sizes, 8, 8) != 0 {
-                return Err(Refusal::BadFrame);
+            [head, ref rest @ ..]
+                if KIND.get(head) == Kind::Packet as usize && HEADER_UNUSED.get(head) == 0 => {
+                Ok(Frame::Packet {
+                    block: BLOCK.get(head),
+                    position: POSITION.get(head),
+                    payload: rest,
+                })
             }
-            Ok(Frame::Shape {
-                rows: bits(head, 24, 4),
-                positions: bits(head, 12, 12),
-                sources: bits(head, 0, 12),
-                blocks: bits(sizes, 16, 12),
-                words: bits(sizes, 0, 8),
-            })
+            _ => Err(Refusal::BadFrame),
         }
-        PACKET => {
-            if bits(head, 24, 4) != 0 {
-                return Err(Refusal::BadFrame);
-            }
-            Ok(Frame::Packet {
-                block: bits(head, 12, 12),
-                position: bits(head, 0, 12),
-                payload: &words[1..words.len()],
-            })
-        }
-        _ => Err(Refusal::BadFrame),
     }
 }
 
@@ -90,7 +96,7 @@ impl Frame<'_> {
         ensures { result ≡ length (frame_words (content_of self.now)) }
     {
         match self {
-            Frame::Shape { .. } => 2,
+            Frame::Shape(_) => 2,
             Frame::Packet { payload, .. } => 1 + payload.len(),
         }
     }
@@ -100,18 +106,18 @@ impl Frame<'_> {
         ensures { result ≡ fits (content_of self.now) }
     {
         match *self {
-            Frame::Shape {
-                rows,
-                positions,
-                sources,
-                blocks,
-                words,
-            } => rows < 16 && positions < 4096 && sources < 4096 && blocks < 4096 && words < 256,
+            Frame::Shape(d) => {
+                ROWS.fits(d.rows)
+                    && POSITIONS.fits(d.positions)
+                    && SOURCES.fits(d.sources)
+                    && BLOCKS.fits(d.blocks)
+                    && WORDS.fits(d.words)
+            }
             Frame::Packet {
                 block,
                 position,
                 ..
-            } => block < 4096 && position < 4096,
+            } => BLOCK.fits(block) && POSITION.fits(position),
         }
     }
 
@@ -129,25 +135,21 @@ impl Frame<'_> {
             return Err(Refusal::WrongRun { place: 0 });
         }
         match *self {
-            Frame::Shape {
-                rows,
-                positions,
-                sources,
-                blocks,
-                words,
-            } => {
-                run[0] = (SHAPE << 28)
-                    + ((rows as u32) << 24)
-                    + ((positions as u32) << 12)
-                    + sources as u32;
-                run[1] = (SIZES << 28) + ((blocks as u32) << 16) + words as u32;
+            Frame::Shape(d) => {
+                run[0] = KIND.put(Kind::Shape as usize)
+                    + ROWS.put(d.rows)
+                    + POSITIONS.put(d.positions)
+                    + SOURCES.put(d.sources);
+                run[1] = KIND.put(Kind::Sizes as usize) + BLOCKS.put(d.blocks) + WORDS.put(d.words);
             }
             Frame::Packet {
                 block,
                 position,
                 payload,
             } => {
-                run[0] = (PACKET << 28) + ((block as u32) << 12) + position as u32;
+                run[0] = KIND.put(Kind::Packet as usize)
+                    + BLOCK.put(block)
+                    + POSITION.put(position);
                 run[1..].copy_from_slice(payload);
             }
         }

@@ -1,43 +1,28 @@
 use crate::*;
-use std::test::Fail;
+use layout::shape::Dimensions;
 
 fn refused(words: &[u32]) -> bool {
-    match read(words) {
-        Ok(_) => false,
-        Err(why) => why == Refusal::BadFrame,
-    }
+    Frame::try_from(words) == Err(Refusal::BadFrame)
 }
 
 #[test]
-fn a_shape_frame_there_and_back(rt: HostRuntime) -> Result<(), Fail> {
-    let frame: Frame<'static> = Frame::Shape {
+fn a_shape_frame_there_and_back(rt: HostRuntime) {
+    let frame: Frame<'static> = Frame::Shape(Dimensions {
         rows: 4,
         positions: 3,
         sources: 1,
         blocks: 1,
         words: 1,
-    };
+    });
     let mut run = [0; 2];
     assert_eq!(rt; frame.length(), 2);
     assert_eq!(rt; frame.write(&mut run), Ok(()));
     assert!(rt; run[0] == 0x14003001 && run[1] == 0x20010001);
-    match read(&run)? {
-        Frame::Shape {
-            rows,
-            positions,
-            sources,
-            blocks,
-            words,
-        } => {
-            assert!(rt; rows == 4 && positions == 3 && sources == 1 && blocks == 1 && words == 1);
-            Ok(())
-        },
-        Frame::Packet { .. } => Err(Fail::new("a packet")),
-    }
+    assert_eq!(rt; Frame::try_from(&run[..]), Ok(frame));
 }
 
 #[test]
-fn a_packet_frame_there_and_back(rt: HostRuntime) -> Result<(), Fail> {
+fn a_packet_frame_there_and_back(rt: HostRuntime) {
     let frame = Frame::Packet {
         block: 0,
         position: 2,
@@ -47,17 +32,7 @@ fn a_packet_frame_there_and_back(rt: HostRuntime) -> Result<(), Fail> {
     assert_eq!(rt; frame.length(), 3);
     assert_eq!(rt; frame.write(&mut run), Ok(()));
     assert!(rt; run[0] == 0x30000002 && run[1] == 7 && run[2] == 8);
-    match read(&run)? {
-        Frame::Shape { .. } => Err(Fail::new("a shape")),
-        Frame::Packet {
-            block,
-            position,
-            payload,
-        } => {
-            assert!(rt; block == 0 && position == 2 && payload.len() == 2 && payload[1] == 8);
-            Ok(())
-        },
-    }
+    assert_eq!(rt; Frame::try_from(&run[..]), Ok(frame));
 }
 
 #[test]
