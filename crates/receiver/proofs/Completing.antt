@@ -14,8 +14,8 @@ use Rattle.layout.proofs.Places.{part_ends}
 use Rattle.layout.proofs.Parts.{part_length}
 use Rattle.layout.proofs.Entries.{entry_read}
 use Rattle.store.specs.Grids.{Grid, packet_or}
-use Rattle.solver.specs.Lost.{AgreeOff}
-use Rattle.solver.specs.Lost.{LostPackets}
+use Rattle.code.specs.Lost.{AgreeOff}
+use Rattle.code.specs.Lost.{LostPackets}
 use Rattle.receiver.specs.Meaning.{IsPacket, Fitted}
 use Rattle.receiver.specs.Blocks.{block_of, Missing, Agrees}
 use Rattle.receiver.specs.Repairs.{Completes}

@@ -13,7 +13,7 @@ use Rattle.layout.specs.Checks.{run_refusal}
 use Rattle.layout.specs.Blocks.{code_of, packet_in, ZeroRun}
 use Rattle.layout.proofs.Passes.{run_ok, passed}
 use Rattle.store.specs.Grids.{Grid, packet_or}
-use Rattle.solver.specs.Lost.{NoPackets}
+use Rattle.code.specs.Lost.{NoPackets}
 use Rattle.code.proofs.Fitting.{fits_several}
 use Rattle.receiver.specs.declared.Whole.{Whole}
 use Rattle.receiver.specs.Meaning.{Meaning, Fitted}

@@ -6,7 +6,7 @@ use Rattle.layout.specs.declared.losses.LossList.{LossList}
 use Rattle.layout.specs.Sizes.{parity_of, lost, LostBelow}
 use Rattle.layout.specs.Blocks.{code_of, packet_in}
 use Rattle.store.specs.Grids.{Grid, packet_or}
-use Rattle.solver.specs.Lost.{Contradicted}
+use Rattle.code.specs.Lost.{Contradicted}
 use Rattle.receiver.specs.Calls.{held_in}
 
 -- block i of a grid, with zeros at the positions that it does not hold

@@ -3,9 +3,10 @@ use Rattle.std.specs.Prelude.{◌≡◌, ℕ, ◌*◌, ◌<◌, Bool, true, fals
 use Rattle.refusal.specs.declared.Refusal.{Refusal}
 use Rattle.refusal.specs.declared.Refusal.TheVariants.{NoShape}
 use Rattle.refusal.specs.Numbers.{said, or_else}
+use Rattle.layout.specs.declared.shape.Dimensions.{Dimensions}
 use Rattle.layout.specs.declared.shape.Shape.{Shape}
 use Rattle.layout.specs.Sizes.{packet_of}
-use Rattle.layout.specs.Made.{Numbers, shape_refusal}
+use Rattle.layout.specs.Made.{dimensions_of, shape_refusal}
 use Rattle.algebra.specs.Code.{count}
 use Rattle.store.specs.Grids.{Grid, format_refusal, get_refusal, Emptied, Filled}
 use Rattle.frame.specs.Frames.{Sight, shape, packet, refused}
@@ -66,23 +67,23 @@ abbrev pub packet_refusal : Meaning → ℕ → ℕ → List ℕ → Option (ℕ
 packet_refusal m i j ws =
     of_shape m.shape (λ s. or_else (length_refusal s ws) (or_else (place_refusal s i j) (other_refusal (m.grid.slots i j) ws)))
 
--- the refusal of a shape's five numbers: by the rules of shapes, then by the store
-abbrev pub start_refusal : ℕ → Meaning → ℕ → ℕ → ℕ → ℕ → ℕ → Option (ℕ × List ℕ)
-start_refusal bits m r n k b w = or_else (shape_refusal bits r n k b w) (format_refusal m.capacity b n (r * w))
+-- the refusal of a shape's dimensions: by the rules of shapes, then by the store
+abbrev pub start_refusal : ℕ → Meaning → Dimensions → Option (ℕ × List ℕ)
+start_refusal bits m d = or_else (shape_refusal bits d) (format_refusal m.capacity d.blocks d.positions (d.rows * d.words))
 
 -- the refusal of a frame
 abbrev pub take_refusal : ℕ → Meaning → Sight → Option (ℕ × List ℕ)
-take_refusal bits m (shape r n k b w) = start_refusal bits m r n k b w
+take_refusal bits m (shape d) = start_refusal bits m d
 take_refusal bits m (packet i j ws) = packet_refusal m i j ws
 take_refusal bits m (refused e) = Some e
 
--- a shape of these numbers is set, and every slot of its grid is empty
-pub record Starts (m : Meaning) (r n k b w : ℕ) (after : Meaning) : Type 0 where
+-- a shape of these dimensions is set, and every slot of its grid is empty
+pub record Starts (m : Meaning) (d : Dimensions) (after : Meaning) : Type 0 where
   pub made : Shape
-  pub numbers : Numbers made r n k b w
+  pub dimensions : dimensions_of made ≡ d
   pub shape_is : after.shape ≡ Some made
   pub capacity_same : after.capacity ≡ m.capacity
-  pub emptied : Emptied b n (r * w) after.grid
+  pub emptied : Emptied d.blocks d.positions (d.rows * d.words) after.grid
 
 -- the packet now fills its slot, which was empty; all else is as it was
 pub record Keeps (m : Meaning) (i j : ℕ) (ws : List ℕ) (after : Meaning) : Type 0 where
@@ -108,15 +109,15 @@ TookPacket m i j ws (Ok Known) after = Knows m i j ws after
 TookPacket m i j ws (Err e) after = after ≡ m
 
 -- what a shape frame does
-abbrev pub TookShape : Meaning → ℕ → ℕ → ℕ → ℕ → ℕ → Result Taken Refusal → Meaning → Type 0
-TookShape m r n k b w (Ok Shaped) after = Starts m r n k b w after
-TookShape m r n k b w (Ok Fresh) after = ⊥
-TookShape m r n k b w (Ok Known) after = ⊥
-TookShape m r n k b w (Err e) after = after ≡ m
+abbrev pub TookShape : Meaning → Dimensions → Result Taken Refusal → Meaning → Type 0
+TookShape m d (Ok Shaped) after = Starts m d after
+TookShape m d (Ok Fresh) after = ⊥
+TookShape m d (Ok Known) after = ⊥
+TookShape m d (Err e) after = after ≡ m
 
 -- what a frame does, by the answer
 abbrev pub Took : Meaning → Sight → Result Taken Refusal → Meaning → Type 0
-Took m (shape r n k b w) answer after = TookShape m r n k b w answer after
+Took m (shape d) answer after = TookShape m d answer after
 Took m (packet i j ws) answer after = TookPacket m i j ws answer after
 Took m (refused e) (Ok t) after = ⊥
 Took m (refused e) (Err f) after = after ≡ m

@@ -8,8 +8,8 @@ use Rattle.layout.specs.declared.shape.Shape.{Shape}
 use Rattle.layout.specs.declared.losses.LossList.{LossList}
 use Rattle.layout.specs.Sizes.{packet_of, lost, parity_of, LostBelow}
 use Rattle.store.specs.Grids.{Grid}
-use Rattle.solver.specs.Sums.{SumsTo}
-use Rattle.solver.specs.Lost.{NoPackets}
+use Rattle.code.specs.Sums.{SumsTo}
+use Rattle.code.specs.Lost.{NoPackets}
 use Rattle.receiver.specs.declared.Whole.{Whole}
 use Rattle.receiver.specs.Meaning.{Fitted}
 use Rattle.receiver.specs.Blocks.{block_of, Missing}

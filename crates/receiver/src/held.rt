@@ -9,6 +9,7 @@ use crate::Receiver;
 use field::Arithmetic;
 use refusal::Refusal;
 use store::SlotStore;
+use store::slots::Slot;
 
 impl<F: Arithmetic, S: SlotStore> Receiver<F, S> {
     // Copies the packet of a block and a position into `run`.
@@ -23,7 +24,11 @@ impl<F: Arithmetic, S: SlotStore> Receiver<F, S> {
         if run.len() != shape.packet() {
             return Err(Refusal::WrongRun { place: 0 });
         }
-        self.store.get(block, position, run)
+        let slot = Slot {
+            row: block,
+            column: position,
+        };
+        self.store.get(slot, run)
     }
 
     // How many positions of a block are held.
@@ -37,7 +42,11 @@ impl<F: Arithmetic, S: SlotStore> Receiver<F, S> {
         }
         let mut held = 0;
         for position in 0..shape.positions() {
-            if self.store.held(block, position)? {
+            let slot = Slot {
+                row: block,
+                column: position,
+            };
+            if self.store.held(slot)? {
                 held += 1;
             }
         }

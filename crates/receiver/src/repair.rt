@@ -8,14 +8,15 @@ ghost use Rattle.receiver.specs.Steps.{Repairable, Listed, HeldSummed, AllPut, M
 ghost use Rattle.receiver.specs.Repairs.{AfterRepair, Judges};
 
 use crate::{Receiver, Whole};
+use code::rebuild::rebuild;
+use code::sums::absorb;
 use field::Arithmetic;
 use layout::losses::LossList;
 use layout::runs::clear;
 use layout::shape::Shape;
 use refusal::Refusal;
-use solver::rebuild::rebuild;
-use solver::sums::absorb;
 use store::SlotStore;
+use store::slots::Slot;
 
 // The positions of a block that are not held; refused if these are too many.
 fn missing<S: SlotStore>(store: &S, shape: &Shape, block: usize) -> Result<LossList, Refusal>
@@ -26,7 +27,11 @@ fn missing<S: SlotStore>(store: &S, shape: &Shape, block: usize) -> Result<LossL
     let mut positions = [0; 32];
     let mut count = 0;
     for position in 0..shape.positions() {
-        if !store.held(block, position)? {
+        let slot = Slot {
+            row: block,
+            column: position,
+        };
+        if !store.held(slot)? {
             if count >= shape.parity() {
                 return Err(Refusal::TooFew);
             }
@@ -52,8 +57,12 @@ fn absorb_held<F: Arithmetic, S: SlotStore>(
     ensures { Fitted F.Arithmetic.bits shape.now (S.SlotStore.grid store.now) → HeldSummed shape.now F.Arithmetic.prod (S.SlotStore.grid store.now) block sums.new result }
 {
     for position in 0..shape.positions() {
-        if store.held(block, position)? {
-            store.get(block, position, scratch)?;
+        let slot = Slot {
+            row: block,
+            column: position,
+        };
+        if store.held(slot)? {
+            store.get(slot, scratch)?;
             absorb::<F>(shape, sums, position, scratch)?;
         }
     }
@@ -76,9 +85,12 @@ fn put_found<S: SlotStore>(
     ensures kept { S.SlotStore.capacity store.new ≡ S.SlotStore.capacity store.old }
     ensures shut { S.SlotStore.lock store.old ≡ 0 → S.SlotStore.lock store.new ≡ 0 }
 {
-    let p = shape.packet();
-    for (s, at) in losses.positions().iter().enumerate() {
-        store.put(block, *at, &run[s * p..s * p + p])?;
+    for (at, packet) in losses.positions().iter().zip(run.chunks(shape.packet())) {
+        let slot = Slot {
+            row: block,
+            column: *at,
+        };
+        store.put(slot, packet)?;
     }
     Ok(())
 }

@@ -7,44 +7,41 @@ ghost use Rattle.receiver.specs.Calls.{start_refusal, TookShape, Compared, packe
 
 use crate::{Receiver, Taken};
 use field::Arithmetic;
-use frame::{Frame, read};
-use layout::shape::Shape;
+use frame::Frame;
+use layout::shape::{Dimensions, Shape};
 use refusal::Refusal;
 use store::SlotStore;
+use store::slots::{Format, Slot};
 
 // The longest packet: 10 rows of 16 words.
 const LONGEST: usize = 160;
 
 impl<F: Arithmetic, S: SlotStore> Receiver<F, S> {
-    // Sets a shape of these numbers, and formats the store for it.
-    fn start(
-        &mut self,
-        rows: usize,
-        positions: usize,
-        sources: usize,
-        blocks: usize,
-        words: usize,
-    ) -> Result<Taken, Refusal>
-        ensures answer { refused_with result ≡ start_refusal F.Arithmetic.bits (means S.SlotStore.capacity S.SlotStore.grid self.old) rows positions sources blocks words }
-        ensures after { TookShape (means S.SlotStore.capacity S.SlotStore.grid self.old) rows positions sources blocks words result (means S.SlotStore.capacity S.SlotStore.grid self.new) }
+    // Sets a shape of these dimensions, and formats the store for it.
+    fn start(&mut self, dimensions: Dimensions) -> Result<Taken, Refusal>
+        ensures answer { refused_with result ≡ start_refusal F.Arithmetic.bits (means S.SlotStore.capacity S.SlotStore.grid self.old) dimensions }
+        ensures after { TookShape (means S.SlotStore.capacity S.SlotStore.grid self.old) dimensions result (means S.SlotStore.capacity S.SlotStore.grid self.new) }
         ensures sound { Sound F.Arithmetic.bits (means S.SlotStore.capacity S.SlotStore.grid self.old) → Sound F.Arithmetic.bits (means S.SlotStore.capacity S.SlotStore.grid self.new) }
         ensures shut { S.SlotStore.lock self.old.store ≡ 0 → S.SlotStore.lock self.new.store ≡ 0 }
     {
-        let shape = Shape::new::<F>(rows, positions, sources, blocks, words)?;
-        self.store
-            .format(shape.blocks(), shape.positions(), shape.packet())?;
+        let shape = Shape::new::<F>(dimensions)?;
+        self.store.format(Format {
+            rows: shape.blocks(),
+            columns: shape.positions(),
+            size: shape.packet(),
+        })?;
         self.shape = Some(shape);
         Ok(Taken::Shaped)
     }
 
     // Whether a slot holds just these words.
-    fn holds(&self, block: usize, position: usize, words: &[u32]) -> Result<bool, Refusal>
+    fn holds(&self, slot: Slot, words: &[u32]) -> Result<bool, Refusal>
         requires { length words.now ≤ 160 }
-        ensures { Compared (S.SlotStore.grid self.now.store) block position words.now result }
+        ensures { Compared (S.SlotStore.grid self.now.store) slot.row slot.column words.now result }
     {
         let mut packet = [0; LONGEST];
         let held = &mut packet[0..words.len()];
-        self.store.get(block, position, held)?;
+        self.store.get(slot, held)?;
         Ok(*held == *words)
     }
 
@@ -68,13 +65,17 @@ impl<F: Arithmetic, S: SlotStore> Receiver<F, S> {
         if block >= shape.blocks() || position >= shape.positions() {
             return Err(Refusal::OutsideShape);
         }
-        if self.store.held(block, position)? {
-            if self.holds(block, position, payload)? {
+        let slot = Slot {
+            row: block,
+            column: position,
+        };
+        if self.store.held(slot)? {
+            if self.holds(slot, payload)? {
                 return Ok(Taken::Known);
             }
             return Err(Refusal::OtherPacket);
         }
-        self.store.put(block, position, payload)?;
+        self.store.put(slot, payload)?;
         Ok(Taken::Fresh)
     }
 
@@ -85,18 +86,8 @@ impl<F: Arithmetic, S: SlotStore> Receiver<F, S> {
         ensures sound { Sound F.Arithmetic.bits (means S.SlotStore.capacity S.SlotStore.grid self.old) → Sound F.Arithmetic.bits (means S.SlotStore.capacity S.SlotStore.grid self.new) }
         ensures shut { S.SlotStore.lock self.old.store ≡ 0 → S.SlotStore.lock self.new.store ≡ 0 }
     {
-        let frame = read(words)?;
-        match (self.shape, frame) {
-            (
-                _,
-                Frame::Shape {
-                    rows,
-                    positions,
-                    sources,
-                    blocks,
-                    words,
-                },
-            ) => self.start(rows, positions, sources, blocks, words),
+        match (self.shape, Frame::try_from(words)?) {
+            (_, Frame::Shape(dimensions)) => self.start(dimensions),
             (None, Frame::Packet { .. }) => Err(Refusal::NoShape),
             (
                 Some(shape),

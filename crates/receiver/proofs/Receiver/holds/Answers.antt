@@ -6,4 +6,4 @@ use Rattle.std.proofs.lemmas.Bool.Decides.{Decides-eqb}
 pub returns : goal.returns
 returns g c =
     let h = c.in_ok-get.ensures in
-    compared (g.S.SlotStore.grid c.args.self.now.store) c.args.block c.args.position _ _ c.args.words.now c.eq.result h.answer h.after (slice_eq-Decides Decides-eqb _ _ _ c.eq.ensures)
+    compared (g.S.SlotStore.grid c.args.self.now.store) c.args.slot.row c.args.slot.column _ _ c.args.words.now c.eq.result h.answer h.after (slice_eq-Decides Decides-eqb _ _ _ c.eq.ensures)

@@ -5,7 +5,7 @@ use Rattle.layout.specs.Sizes.{parity_of, packet_of}
 use Rattle.layout.specs.Blocks.{ZeroRun}
 use Rattle.layout.proofs.Blocks.{zero_front}
 use Rattle.layout.proofs.Passes.{run_passes}
-use Rattle.solver.proofs.Stages.{laws_of}
+use Rattle.code.proofs.Stages.{laws_of}
 use Rattle.receiver.specs.Meaning.{means, Fitted}
 use Rattle.receiver.specs.Repairs.{Judged}
 use Rattle.receiver.proofs.Completing.{fitted_own}

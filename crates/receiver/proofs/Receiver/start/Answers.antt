@@ -16,7 +16,7 @@ returns-in_err-format g c =
     let h = c.in_err-format.ensures in
     let made = c.in_ok-shape.ensures in
     rw (p.1, p.2) (record {
-      answer = start_answer F.bits (means T.capacity T.grid v) c.in_ok-shape.shape a.rows a.positions a.sources a.blocks a.words
+      answer = start_answer F.bits (means T.capacity T.grid v) c.in_ok-shape.shape a.dimensions
           c.blocks-2.result c.positions.result c.packet.result made.made made.answer c.blocks-2.ensures.value c.positions.ensures.value c.packet.ensures.value _ h.answer;
       after = same_meaning v.shape _ _ _ _ h.kept h.after;
       sound = λ S s e. subst (λ (k : Grid). Fitted F.bits s k) (sym h.after) (S s e);
@@ -36,10 +36,10 @@ returns g c =
     let ey = c.positions.ensures.value in
     let ez = c.packet.ensures.value in
     record {
-      answer = start_answer F.bits (means T.capacity T.grid v) s a.rows a.positions a.sources a.blocks a.words c.blocks-2.result c.positions.result c.packet.result made.made made.answer ex ey ez _ h.answer;
-      after = starts F.bits (means T.capacity T.grid v) s a.rows a.positions a.sources a.blocks a.words c.blocks-2.result c.positions.result c.packet.result made.made made.answer ex ey ez
+      answer = start_answer F.bits (means T.capacity T.grid v) s a.dimensions c.blocks-2.result c.positions.result c.packet.result made.made made.answer ex ey ez _ h.answer;
+      after = starts F.bits (means T.capacity T.grid v) s a.dimensions c.blocks-2.result c.positions.result c.packet.result made.made made.answer ex ey ez
           _ refl h.kept h.after;
-      sound = λ _. start_sound F.bits (means T.capacity T.grid v) s a.rows a.positions a.sources a.blocks a.words c.blocks-2.result c.positions.result c.packet.result made.made made.answer ex ey ez
+      sound = λ _. start_sound F.bits (means T.capacity T.grid v) s a.dimensions c.blocks-2.result c.positions.result c.packet.result made.made made.answer ex ey ez
           (T.grid c.format.new.self) h.after;
       shut = λ _. h.shut;
     }

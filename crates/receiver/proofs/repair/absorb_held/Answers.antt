@@ -1,9 +1,9 @@
 use Rattle.std.proofs.Common.{◌≡◌, ◌<◌, true, [], is_some, ap, ◌∙◌, subst, arith}
 use Rattle.layout.specs.Blocks.{packet_in}
 use Rattle.layout.proofs.Passes.{passed}
-use Rattle.solver.specs.Sums.{SumsTo}
-use Rattle.solver.proofs.Absorbs.{sums_none, sums_held, sums_lost}
-use Rattle.solver.proofs.Passes.{absorb_passes}
+use Rattle.code.specs.Sums.{SumsTo}
+use Rattle.code.proofs.Absorbs.{sums_none, sums_held, sums_lost}
+use Rattle.code.proofs.Passes.{absorb_passes}
 use Rattle.receiver.specs.Blocks.{block_of}
 use Rattle.receiver.proofs.Counts.{held_is, held_answers}
 use Rattle.receiver.proofs.Reading.{packet_or_lem, missing_zero, get_passes}

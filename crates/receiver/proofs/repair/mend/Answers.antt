@@ -1,8 +1,8 @@
 use Rattle.std.proofs.Common.{Ok, Err, refl, ◌∙◌}
 use Rattle.std.proofs.lemmas.Result.{err_from_is_err_and}
 use Rattle.layout.specs.Sizes.{parity_of, Packets}
-use Rattle.solver.proofs.Passes.{rebuild_passes}
-use Rattle.solver.proofs.Losing.{found_lost}
+use Rattle.code.proofs.Passes.{rebuild_passes}
+use Rattle.code.proofs.Losing.{found_lost}
 use Rattle.receiver.specs.Blocks.{block_of}
 use Rattle.receiver.proofs.Completing.{fitted_own, missing_gone, completes, still_fitted}
 use Rattle.receiver.proofs.repair.mend.Goals as goal
