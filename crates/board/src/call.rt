@@ -90,30 +90,15 @@ impl<T: Drop> From<AllocFailed<T>> for Error {
 }
 
 fn number(text: &str) -> Result<usize, Error> {
-    match text.parse::<usize>() {
-        Ok(n) => Ok(n),
-        Err(_) => Err(Error::NoNumber),
-    }
-}
-
-fn digit(byte: u8) -> Result<u32, Error> {
-    match byte {
-        b'0'..=b'9' => Ok((byte - b'0') as u32),
-        b'a'..=b'f' => Ok((byte - b'a') as u32 + 10),
-        _ => Err(Error::NoWord),
-    }
+    text.parse().map_err(|_| Error::NoNumber)
 }
 
 // The word that eight digits spell.
 fn word(text: &str) -> Result<u32, Error> {
-    if text.len() != 8 {
+    if text.len() != 8 || !text.bytes().all(|b| matches!(b, b'0'..=b'9' | b'a'..=b'f')) {
         return Err(Error::NoWord);
     }
-    let mut value = 0u32;
-    for byte in text.bytes() {
-        value = value.wrapping_mul(16).wrapping_add(digit(byte)?);
-    }
-    Ok(value)
+    u32::from_str_radix(text, 16).map_err(|_| Error::NoWord)
 }
 
 fn frame(heap: Global, digits: &[&str]) -> Result<Vec<u32>, Error> {
@@ -124,52 +109,53 @@ fn frame(heap: Global, digits: &[&str]) -> Result<Vec<u32>, Error> {
     Ok(frame)
 }
 
-pub fn parse_setting(heap: Global, line: &str) -> Result<Setting, Error> {
-    let parts: Vec<&str> = line.split_whitespace().collect(heap)?;
-    match parts.as_slice() {
-        ["arithmetic", "nibble"] => Ok(Setting::Nibble),
-        ["arithmetic", "stepped-octet"] => Ok(Setting::SteppedOctet),
-        ["arithmetic", "tabled-octet"] => Ok(Setting::TabledOctet),
-        _ => Err(Error::NoArithmetic),
+impl Setting {
+    pub fn parse(heap: Global, line: &str) -> Result<Setting, Error> {
+        let parts: Vec<&str> = line.split_whitespace().collect(heap)?;
+        match parts.as_slice() {
+            ["arithmetic", "nibble"] => Ok(Setting::Nibble),
+            ["arithmetic", "stepped-octet"] => Ok(Setting::SteppedOctet),
+            ["arithmetic", "tabled-octet"] => Ok(Setting::TabledOctet),
+            _ => Err(Error::NoArithmetic),
+        }
     }
 }
 
-fn stored(medium: Medium, words: &str) -> Result<Place, Error> {
-    Ok(Place {
-        medium,
-        words: number(words)?,
-    })
-}
-
-pub fn parse_place(heap: Global, line: &str) -> Result<Place, Error> {
-    let parts: Vec<&str> = line.split_whitespace().collect(heap)?;
-    match parts.as_slice() {
-        ["store", "memory", words] => stored(Medium::Memory, words),
-        ["store", "nor", words] => stored(Medium::Nor, words),
-        ["store", "transposed", "memory", words] => stored(Medium::TransposedMemory, words),
-        ["store", "transposed", "nor", words] => stored(Medium::TransposedNor, words),
-        _ => Err(Error::NoStore),
+impl Place {
+    pub fn parse(heap: Global, line: &str) -> Result<Place, Error> {
+        let parts: Vec<&str> = line.split_whitespace().collect(heap)?;
+        let (medium, words) = match *parts.as_slice() {
+            ["store", "memory", words] => (Medium::Memory, words),
+            ["store", "nor", words] => (Medium::Nor, words),
+            ["store", "transposed", "memory", words] => (Medium::TransposedMemory, words),
+            ["store", "transposed", "nor", words] => (Medium::TransposedNor, words),
+            _ => return Err(Error::NoStore),
+        };
+        let words = number(words)?;
+        Ok(Place { medium, words })
     }
 }
 
-pub fn parse(heap: Global, line: &str) -> Result<Call, Error> {
-    let parts: Vec<&str> = line.split_whitespace().collect(heap)?;
-    match parts.as_slice() {
-        ["take", digits @ ..] => Ok(Call::Take {
-            frame: frame(heap, digits)?,
-        }),
-        ["repair", block, length] => Ok(Call::Repair {
-            block: number(block)?,
-            length: number(length)?,
-        }),
-        ["fetch", block, position, length] => Ok(Call::Fetch {
-            block: number(block)?,
-            position: number(position)?,
-            length: number(length)?,
-        }),
-        ["count", block] => Ok(Call::Count {
-            block: number(block)?,
-        }),
-        _ => Err(Error::NoCall),
+impl Call {
+    pub fn parse(heap: Global, line: &str) -> Result<Call, Error> {
+        let parts: Vec<&str> = line.split_whitespace().collect(heap)?;
+        match parts.as_slice() {
+            ["take", digits @ ..] => Ok(Call::Take {
+                frame: frame(heap, digits)?,
+            }),
+            ["repair", block, length] => Ok(Call::Repair {
+                block: number(block)?,
+                length: number(length)?,
+            }),
+            ["fetch", block, position, length] => Ok(Call::Fetch {
+                block: number(block)?,
+                position: number(position)?,
+                length: number(length)?,
+            }),
+            ["count", block] => Ok(Call::Count {
+                block: number(block)?,
+            }),
+            _ => Err(Error::NoCall),
+        }
     }
 }

@@ -1,16 +1,18 @@
 // Calls of one receiver, read from standard input one to a line, and their answers, one to a line.
 #![tactic(auto)]
 
+mod answer;
 mod call;
 
+use answer::Answer;
 use call::{Call, Error, Medium, Place, Setting};
 use field::Arithmetic;
 use field::nibble::NibbleTables;
 use field::octet::OctetTables;
 use field::stepped::SteppedOctet;
 use field::tabled::Tabled;
-use receiver::{Receiver, Taken};
-use refusal::Refusal;
+use receiver::Receiver;
+use std::alloc::{AllocError, Global};
 use std::io::{BufRead, BufReader, Lines, Stdin};
 use std::process::ExitCode;
 use store::SlotStore;
@@ -21,112 +23,49 @@ use store::transposed::Transposed;
 // The lines that are still to come.
 type Input = Lines<BufReader<Stdin>>;
 
-// The next line that is neither empty nor a comment.
-fn next_line(input: &mut Input) -> anyhow::Result<Option<String>> {
-    for _ in 0..u64::MAX {
-        let Some(line) = input.next() else {
-            return Ok(None);
-        };
-        let line = line?;
-        let text = line.as_str().trim();
-        if !text.is_empty() && !text.starts_with('#') {
-            return Ok(Some(line));
-        }
-    }
-    Ok(None)
-}
-
-fn print_refusal(rt: &HostRuntime, refusal: Refusal) -> anyhow::Result<()> {
-    let number = refusal.number();
-    match refusal {
-        Refusal::WrongRun { place } => println!(rt; "refused {number} {place}")?,
-        Refusal::Contradictory { sum, word } => println!(rt; "refused {number} {sum} {word}")?,
-        _ => println!(rt; "refused {number}")?,
-    }
-    Ok(())
-}
-
-fn print_packet(rt: &HostRuntime, words: &[u32]) -> anyhow::Result<()> {
-    print!(rt; "packet")?;
-    for word in words {
-        print!(rt; " {word:08x}")?;
-    }
-    println!(rt; "")?;
-    Ok(())
-}
-
-fn take<F: Arithmetic, S: SlotStore>(
-    rt: &HostRuntime,
-    receiver: &mut Receiver<F, S>,
-    frame: &[u32],
-) -> anyhow::Result<()> {
-    match receiver.take(frame) {
-        Ok(Taken::Shaped) => println!(rt; "shaped")?,
-        Ok(Taken::Fresh) => println!(rt; "fresh")?,
-        Ok(Taken::Known) => println!(rt; "known")?,
-        Err(refusal) => print_refusal(rt, refusal)?,
-    }
-    Ok(())
-}
-
-fn repair<F: Arithmetic, S: SlotStore>(
-    rt: &HostRuntime,
-    receiver: &mut Receiver<F, S>,
-    block: usize,
-    length: usize,
-) -> anyhow::Result<()> {
-    let mut work = vec![in rt.alloc(); 0; length]?;
-    match receiver.repair(block, &mut work) {
-        Ok(whole) => {
-            let restored = whole.restored;
-            println!(rt; "whole {restored}")?;
-        }
-        Err(refusal) => print_refusal(rt, refusal)?,
-    }
-    Ok(())
-}
-
-fn fetch<F: Arithmetic, S: SlotStore>(
-    rt: &HostRuntime,
-    receiver: &Receiver<F, S>,
-    block: usize,
-    position: usize,
-    length: usize,
-) -> anyhow::Result<()> {
-    let mut run = vec![in rt.alloc(); 0; length]?;
-    match receiver.fetch(block, position, &mut run) {
-        Ok(()) => print_packet(rt, &run),
-        Err(refusal) => print_refusal(rt, refusal),
+// What a line says, but for empty lines and comments.
+fn said(line: &str) -> Option<&str> {
+    let text = line.trim();
+    if text.is_empty() || text.starts_with('#') {
+        None
+    } else {
+        Some(text)
     }
 }
 
-fn count<F: Arithmetic, S: SlotStore>(
-    rt: &HostRuntime,
-    receiver: &Receiver<F, S>,
-    block: usize,
-) -> anyhow::Result<()> {
-    match receiver.count(block) {
-        Ok(held) => println!(rt; "held {held}")?,
-        Err(refusal) => print_refusal(rt, refusal)?,
-    }
-    Ok(())
-}
-
-// Makes one call, and prints its answer.
-fn answer<F: Arithmetic, S: SlotStore>(
-    rt: &HostRuntime,
+// Makes one call.
+fn respond<F: Arithmetic, S: SlotStore>(
+    heap: Global,
     receiver: &mut Receiver<F, S>,
     call: Call,
-) -> anyhow::Result<()> {
+) -> Result<Answer, AllocError> {
     match call {
-        Call::Take { frame } => take(rt, receiver, &frame),
-        Call::Repair { block, length } => repair(rt, receiver, block, length),
+        Call::Take { frame } => Ok(match receiver.take(&frame) {
+            Ok(taken) => Answer::Taken(taken),
+            Err(refusal) => Answer::Refused(refusal),
+        }),
+        Call::Repair { block, length } => {
+            let mut work = vec![in heap; 0; length]?;
+            Ok(match receiver.repair(block, &mut work) {
+                Ok(whole) => Answer::Whole(whole),
+                Err(refusal) => Answer::Refused(refusal),
+            })
+        }
         Call::Fetch {
             block,
             position,
             length,
-        } => fetch(rt, receiver, block, position, length),
-        Call::Count { block } => count(rt, receiver, block),
+        } => {
+            let mut run = vec![in heap; 0; length]?;
+            Ok(match receiver.fetch(block, position, &mut run) {
+                Ok(()) => Answer::Packet(run),
+                Err(refusal) => Answer::Refused(refusal),
+            })
+        }
+        Call::Count { block } => Ok(match receiver.count(block) {
+            Ok(held) => Answer::Held(held),
+            Err(refusal) => Answer::Refused(refusal),
+        }),
     }
 }
 
@@ -135,15 +74,19 @@ fn serve<F: Arithmetic + Drop, S: SlotStore + Drop>(
     rt: &HostRuntime,
     arithmetic: F,
     store: S,
-    mut input: Input,
+    input: Input,
 ) -> anyhow::Result<()> {
     let mut receiver = Receiver::new(arithmetic, store);
-    for _ in 0..u64::MAX {
-        let Some(line) = next_line(&mut input)? else {
-            return Ok(());
+    for line in input {
+        let line = line?;
+        let Some(text) = said(line.as_str()) else {
+            continue;
         };
-        match call::parse(rt.alloc(), line.as_str()) {
-            Ok(call) => answer(rt, &mut receiver, call)?,
+        match Call::parse(rt.alloc(), text) {
+            Ok(call) => {
+                let answer = respond(rt.alloc(), &mut receiver, call)?;
+                println!(rt; "{answer}")?;
+            }
             Err(error) => println!(rt; "error: {error}")?,
         }
     }
@@ -176,28 +119,21 @@ fn over<F: Arithmetic + Drop>(
     }
 }
 
-// The first line: which arithmetic.
-fn arithmetic_line(rt: &HostRuntime, input: &mut Input) -> anyhow::Result<Option<Setting>> {
-    for _ in 0..u64::MAX {
-        let Some(line) = next_line(input)? else {
-            return Ok(None);
+// What the first line says that `parse` understands; each line before it gets an error.
+fn heading<T, P: Fn(Global, &str) -> Result<T, Error>>(
+    rt: &HostRuntime,
+    input: &mut Input,
+    parse: P,
+) -> anyhow::Result<Option<T>>
+    requires { P.IsAlwaysCallable parse }
+{
+    for line in input.by_ref() {
+        let line = line?;
+        let Some(text) = said(line.as_str()) else {
+            continue;
         };
-        match call::parse_setting(rt.alloc(), line.as_str()) {
-            Ok(setting) => return Ok(Some(setting)),
-            Err(error) => println!(rt; "error: {error}")?,
-        }
-    }
-    Ok(None)
-}
-
-// The second line: which store.
-fn store_line(rt: &HostRuntime, input: &mut Input) -> anyhow::Result<Option<Place>> {
-    for _ in 0..u64::MAX {
-        let Some(line) = next_line(input)? else {
-            return Ok(None);
-        };
-        match call::parse_place(rt.alloc(), line.as_str()) {
-            Ok(place) => return Ok(Some(place)),
+        match parse(rt.alloc(), text) {
+            Ok(heading) => return Ok(Some(heading)),
             Err(error) => println!(rt; "error: {error}")?,
         }
     }
@@ -206,10 +142,10 @@ fn store_line(rt: &HostRuntime, input: &mut Input) -> anyhow::Result<Option<Plac
 
 fn run(rt: &HostRuntime) -> anyhow::Result<()> {
     let mut input = BufReader::new(rt.alloc(), rt.stdin())?.lines(rt.alloc());
-    let Some(setting) = arithmetic_line(rt, &mut input)? else {
+    let Some(setting) = heading(rt, &mut input, Setting::parse)? else {
         return Ok(());
     };
-    let Some(place) = store_line(rt, &mut input)? else {
+    let Some(place) = heading(rt, &mut input, Place::parse)? else {
         return Ok(());
     };
     match setting {

@@ -10,7 +10,7 @@ use field::Arithmetic;
 use field::octet::TabledOctet;
 use field::stepped::SteppedOctet;
 use layout::losses::LossList;
-use layout::shape::Shape;
+use layout::shape::{Dimensions, Shape};
 use refusal::Refusal;
 use std::alloc::{AllocError, Global};
 use std::process::ExitCode;
@@ -18,6 +18,7 @@ use std::{env, fs};
 use store::SlotStore;
 use store::memory::MemoryStore;
 use store::nor::NorStore;
+use store::slots::{Format, Slot};
 use store::transposed::Transposed;
 
 // What is asked for on the command line.
@@ -33,10 +34,9 @@ fn number(args: &mut env::Args, default: usize) -> anyhow::Result<usize> {
     let Some(text) = args.next() else {
         return Ok(default);
     };
-    match text.as_str().parse::<usize>() {
-        Ok(n) => Ok(n),
-        Err(_) => Err(anyhow!("POSITIONS, SOURCES and WORDS are numbers")),
-    }
+    text.as_str()
+        .parse()
+        .map_err(|_| anyhow!("POSITIONS, SOURCES and WORDS are numbers"))
 }
 
 fn asked(rt: &HostRuntime) -> anyhow::Result<Job> {
@@ -59,25 +59,19 @@ fn asked(rt: &HostRuntime) -> anyhow::Result<Job> {
     })
 }
 
-// A byte, or 0 behind the last.
-fn byte(bytes: &[u8], i: usize) -> u8 {
-    bytes.get(i).copied().unwrap_or(0)
+// The word of up to four bytes, highest first, with zeros behind them.
+fn word(bytes: &[u8]) -> u32 {
+    let mut four = [0; 4];
+    for (byte, b) in four.iter_mut().zip(bytes) {
+        *byte = *b;
+    }
+    u32::from_be_bytes(four)
 }
 
 // The words of some bytes, highest byte first, with zeros behind them up to `count` words.
 fn words_of(heap: Global, bytes: &[u8], count: usize) -> Result<Vec<u32>, AllocError> {
-    let mut words = Vec::new(heap);
-    for four in bytes.chunks(4).take(count) {
-        words.push(u32::from_be_bytes([
-            byte(four, 0),
-            byte(four, 1),
-            byte(four, 2),
-            byte(four, 3),
-        ]))?;
-    }
-    for _i in words.len()..count {
-        words.push(0)?;
-    }
+    let mut words: Vec<u32> = bytes.chunks(4).take(count).map(word).collect(heap)?;
+    words.resize(count, 0)?;
     Ok(words)
 }
 
@@ -106,6 +100,14 @@ impl Link {
             }
         }
         Ok(lost)
+    }
+}
+
+// The slot of a packet.
+fn at(block: usize, position: usize) -> Slot {
+    Slot {
+        row: block,
+        column: position,
     }
 }
 
@@ -141,7 +143,7 @@ impl<S: SlotStore + Drop> Board<S> {
         let lost = self.link.lost(heap, shape)?;
         for (position, packet) in sent.chunks(shape.packet()).enumerate() {
             if !lost.contains(&position) {
-                self.store.put(block, position, packet)?;
+                self.store.put(at(block, position), packet)?;
             }
         }
         Ok(())
@@ -158,8 +160,8 @@ impl<S: SlotStore + Drop> Board<S> {
         let mut missing = Vec::new(heap);
         for position in 0..shape.positions() {
             let mut packet = vec![in heap; 0; shape.packet()]?;
-            if self.store.held(block, position)? {
-                self.store.get(block, position, &mut packet)?;
+            if self.store.held(at(block, position))? {
+                self.store.get(at(block, position), &mut packet)?;
             } else {
                 missing.push(position)?;
             }
@@ -182,7 +184,7 @@ impl<S: SlotStore + Drop> Board<S> {
         repair::<F>(shape, &mut words, &losses, &mut work)?;
         for (position, packet) in words.as_slice().chunks(shape.packet()).enumerate() {
             if missing.contains(&position) {
-                self.store.put(block, position, packet)?;
+                self.store.put(at(block, position), packet)?;
             }
         }
         self.restored = self.restored.saturating_add(missing.len());
@@ -233,9 +235,18 @@ fn sent_block(heap: Global, shape: &Shape, bytes: &[u8]) -> anyhow::Result<Vec<u
 
 // The shape for an image of so many bytes.
 fn shape_for(job: &Job, length: usize) -> Result<Shape, Refusal> {
-    let one = Shape::new::<TabledOctet>(8, job.positions, job.sources, 1, job.words)?;
-    let blocks = length.div_ceil(block_bytes(&one));
-    Shape::new::<TabledOctet>(8, job.positions, job.sources, blocks, job.words)
+    let one = Dimensions {
+        rows: 8,
+        positions: job.positions,
+        sources: job.sources,
+        blocks: 1,
+        words: job.words,
+    };
+    let block = block_bytes(&Shape::new::<TabledOctet>(one)?);
+    Shape::new::<TabledOctet>(Dimensions {
+        blocks: length.div_ceil(block),
+        ..one
+    })
 }
 
 // Sends every block to both boards, lets each restore what it missed, and compares.
@@ -270,11 +281,13 @@ fn run(rt: &HostRuntime) -> anyhow::Result<()> {
     };
     let length = image.len();
     let shape = shape_for(&job, length)?;
-    let blocks = shape.blocks();
-    let positions = shape.positions();
-    let sources = shape.sources();
-    let rows = shape.rows();
-    let words = shape.words();
+    let Dimensions {
+        rows,
+        positions,
+        sources,
+        blocks,
+        words,
+    } = shape.dimensions();
     let packet = shape.packet();
     println!(rt; "image: {path}, {length} bytes")?;
     println!(rt;
@@ -285,8 +298,13 @@ fn run(rt: &HostRuntime) -> anyhow::Result<()> {
     let mut flash = vec![in heap; 0; slots + 1]?;
     let mut stepped = Board::new("stepped", 0x2545_F491, MemoryStore::new(&mut memory));
     let mut tabled = Board::new("tabled", 0x9E37_79B9, Transposed(NorStore::new(&mut flash)));
-    stepped.store.format(blocks, positions, packet)?;
-    tabled.store.format(blocks, positions, packet)?;
+    let format = Format {
+        rows: blocks,
+        columns: positions,
+        size: packet,
+    };
+    stepped.store.format(format)?;
+    tabled.store.format(format)?;
     broadcast(rt, &shape, &image, &mut stepped, &mut tabled)?;
     if stepped.same && tabled.same {
         println!(rt; "both boards hold the same image")?;

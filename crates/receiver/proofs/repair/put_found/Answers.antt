@@ -1,9 +1,7 @@
 use Rattle.std.proofs.Math.Facts.{Fits-lt-pow}
-use Rattle.std.proofs.Common.{◌≡◌, ◌+◌, ◌*◌, ◌<◌, ◌≤◌, [], ◌∷◌, length, get_or, drop, sym, refl, ap, ◌∙◌, subst, inl, inr, arith, rules, length-append, length-drop}
-use Rattle.std.specs.List.{between}
+use Rattle.std.proofs.Common.{◌≡◌, ◌<◌, ◌≤◌, [], ◌∷◌, length, get_or, sym, refl, ap, ◌∙◌, subst, inl, inr, arith, rules, length-append, length-drop}
 use Rattle.layout.specs.Sizes.{parity_of, packet_of, lost}
 use Rattle.layout.specs.Made.{lost_at}
-use Rattle.layout.proofs.Parts.{part_length}
 use Rattle.layout.proofs.Passes.{passed}
 use Rattle.store.specs.Grids.{Filled, put_refusal}
 use Rattle.code.proofs.Chunks.{item_turn, chunk_turn, chunks_done}

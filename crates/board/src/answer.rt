@@ -1,0 +1,42 @@
+// What a board says to a call.
+use receiver::{Taken, Whole};
+use refusal::Refusal;
+use std::fmt;
+
+#[derive(Drop)]
+pub enum Answer {
+    Taken(Taken),
+    Whole(Whole),
+    Packet(Vec<u32>),
+    Held(usize),
+    Refused(Refusal),
+}
+
+impl fmt::Display for Answer {
+    fn fmt<W: fmt::Write>(&self, f: &mut fmt::Formatter<W>) -> fmt::Result {
+        match self {
+            Answer::Taken(Taken::Shaped) => write!(f, "shaped"),
+            Answer::Taken(Taken::Fresh) => write!(f, "fresh"),
+            Answer::Taken(Taken::Known) => write!(f, "known"),
+            Answer::Whole(Whole { restored }) => write!(f, "whole {restored}"),
+            Answer::Packet(words) => {
+                write!(f, "packet")?;
+                for word in words {
+                    write!(f, " {word:08x}")?;
+                }
+                Ok(())
+            }
+            Answer::Held(held) => write!(f, "held {held}"),
+            Answer::Refused(refusal) => {
+                let number = refusal.number();
+                match refusal {
+                    Refusal::WrongRun { place } => write!(f, "refused {number} {place}"),
+                    Refusal::Contradictory { sum, word } => {
+                        write!(f, "refused {number} {sum} {word}")
+                    }
+                    _ => write!(f, "refused {number}"),
+                }
+            }
+        }
+    }
+}
