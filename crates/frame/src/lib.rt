@@ -16,7 +16,7 @@ mod bits;
 #[cfg(test)]
 mod tests;
 
-// What a header word is, by its number.
+// The kinds of header words, by their numbers.
 enum Kind {
     Shape = 1,
     // The second word of a shape frame.
@@ -26,21 +26,21 @@ enum Kind {
 
 const KIND: BitField = BitField { low: 28, count: 4 };
 
-// Of a shape frame's first word.
+// In the first word of a shape frame.
 const ROWS: BitField = BitField { low: 24, count: 4 };
 
 const POSITIONS: BitField = BitField { low: 12, count: 12 };
 
 const SOURCES: BitField = BitField { low: 0, count: 12 };
 
-// Of its second word.
+// In its second word.
 const BLOCKS: BitField = BitField { low: 16, count: 12 };
 
 const SIZES_UNUSED: BitField = BitField { low: 8, count: 8 };
 
 const WORDS: BitField = BitField { low: 0, count: 8 };
 
-// Of a packet frame's header.
+// In the header of a packet frame.
 const HEADER_UNUSED: BitField = BitField { low: 24, count: 4 };
 
 const BLOCK: BitField = BitField { low: 12, count: 12 };
@@ -90,6 +90,7 @@ impl<'a> TryFrom<&'a [u32]> for Frame<'a> {
     }
 }
 
+// Each contract names the frame's content, since an enum has no model.
 impl Frame<'_> {
     // How many words the frame has.
     pub fn length(&self) -> usize
