@@ -89,6 +89,7 @@ impl<'a, F: Arithmetic> Solver<'a, F> {
         ensures keeps { Keeps self.now.shape.now F.Arithmetic.prod F.Arithmetic.inv self.now.nodes self.now.count (sums_of self.now.shape.now F.Arithmetic.prod F.Arithmetic.inv self.now.nodes self.now.count) (stage_of self.now.shape.now F.Arithmetic.prod F.Arithmetic.inv self.now.nodes self.now.count (self.now.count - 1)) sums.old sums.new }
         ensures off { Untouched self.now.shape.now F.Arithmetic.prod self.now.count sums.old sums.new }
     {
+        // The numbers of the stage and of the sum are the algorithm's own: each step reads one sum and writes the next.
         for j in 1..self.count {
             for i in (j..self.count).rev() {
                 self.add_entry(sums, scratch, self.nodes[j - 1], i, i - 1);
@@ -122,6 +123,7 @@ impl<'a, F: Arithmetic> Solver<'a, F> {
         let p = self.shape.packet();
         scratch.copy_from_slice(&sums[n * p..n * p + p]);
         keep_first(self.shape, sums, n);
+        // By number, as the gap is; and of a run that `chunks_mut` lent, nothing is known afterwards.
         for j in 0..n {
             let theta = F::inverse(self.gap(j, n));
             add_times::<F>(theta, self.shape, scratch, &mut sums[j * p..j * p + p]);
@@ -150,6 +152,7 @@ impl<'a, F: Arithmetic> Solver<'a, F> {
         ensures { FoundAdded self.now.shape.now F.Arithmetic.prod self.now.nodes self.now.count self.now.count sums.old sums.new }
     {
         let p = self.shape.packet();
+        // By number: the packets found and the sums that take them in are parts of one run.
         for s in 0..self.count {
             scratch.copy_from_slice(&sums[s * p..s * p + p]);
             add_packet::<F>(self.shape, sums, self.count, self.nodes[s], scratch);

@@ -29,6 +29,7 @@ pub(crate) fn add_packet<F: Arithmetic>(
 {
     let p = shape.packet();
     let mut a = raise::<F>(x, first as u32);
+    // By number: of a run that `chunks_mut` lent, nothing is known afterwards.
     for sum in first..shape.parity() {
         add_times::<F>(a, shape, packet, &mut sums[sum * p..sum * p + p]);
         a = F::product(x, a);

@@ -59,9 +59,6 @@ impl<F: Arithmetic, S: SlotStore> Receiver<F, S> {
     fn shape(&self) -> Result<Shape, Refusal>
         ensures { ShapeSaid self.now.shape result }
     {
-        match self.shape {
-            Some(shape) => Ok(shape),
-            None => Err(Refusal::NoShape),
-        }
+        self.shape.ok_or(Refusal::NoShape)
     }
 }

@@ -24,7 +24,7 @@ loop-node-preserved g c =
     let k = c.loop-node.node-index in
     let y = x c.args.n in
     let ox = c.args.self.now.elements in
-    let whole = mid_length nodes j c.args.n c.told-self (let w = c.requires.within in let m = c.args.self.now.few in let k = c.args.self.now.shape.now.counts.2 in omega arith) in
+    let whole = mid_length nodes j c.args.n (omega arith) (let w = c.requires.within in let m = c.args.self.now.few in let k = c.args.self.now.shape.now.counts.2 in omega arith) in
     let here : get_or (mid_of j (c.args.n - j) nodes) k 0 ≡ x (j + k) = get_or-take (c.args.n - j) _ k 0 (omega arith) ∙ get_or-drop j nodes k 0 in
     let lt : c.loop-node.product < 2 ^ f.bits = rw c.loop-node.invariant (gap_lt laws x ox j k y (ox c.args.n)) in
     c.product-product.ensures
@@ -36,7 +36,7 @@ returns g c =
     let f = g.F.Arithmetic in
     let x = node_at c.args.self.now.nodes in
     let ox = c.args.self.now.elements in
-    let all : c.loop-node.node-index ≡ c.args.n - c.args.j = let whole = mid_length c.args.self.now.nodes c.args.j c.args.n c.told-self (let w = c.requires.within in let m = c.args.self.now.few in let k = c.args.self.now.shape.now.counts.2 in omega arith) in omega arith in
+    let all : c.loop-node.node-index ≡ c.args.n - c.args.j = let whole = mid_length c.args.self.now.nodes c.args.j c.args.n (omega arith) (let w = c.requires.within in let m = c.args.self.now.few in let k = c.args.self.now.shape.now.counts.2 in omega arith) in omega arith in
     record {
       value = rw all at c.loop-node.invariant;
       element = rw c.loop-node.invariant (gap_lt g.met.F.Arithmetic.field x ox c.args.j c.loop-node.node-index (x c.args.n) (ox c.args.n));
