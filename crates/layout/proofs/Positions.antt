@@ -1,5 +1,6 @@
 -- Lists of positions, by their places.
-use Rattle.std.proofs.Common.{◌≡◌, ℕ, zero, suc, ◌+◌, ◌<◌, ◌≤◌, Bool, true, false, eqb, ltb, List, ◌++◌, length, get_or, take, sym, refl, ap, ◌∙◌, inl, inr, arith}
+use Rattle.std.proofs.Common.{◌≡◌, ℕ, zero, suc, ◌+◌, ◌-◌, ◌<◌, ◌≤◌, Bool, true, false, eqb, ltb, List, ◌++◌, length, Some, None, Option, Bor, get_or, take, sym, refl, ap, ◌∙◌, inl, inr, arith}
+use Rattle.std.specs.Option.{MatchOption}
 use Rattle.std.specs.List.{AllWithin, HoldsAt, IsAllAdjacentAnswer, IsAnyAnswer}
 use Rattle.std.proofs.lemmas.List.{get_or_append_left, take_at}
 use Rattle.std.proofs.lemmas.Bool.{cases_eq}
@@ -45,3 +46,24 @@ among_by_any p xs q true e any =
     let z : p k ≡ q = let g = f 0 in let a = e k h in grind arith in
     sym (ap (among p (length xs)) (sym z) ∙ among_at p (length xs) k h)
 among_by_any p xs q false e none = sym (among_off p (length xs) q (λ s h z. let g = none s 0 (omega arith) h in let a = e s h in grind arith))
+
+-- a fact about what is there, of one that follows
+match_map : {A : Type 0} (B : Type 0) (P Q : A → Type 0) (o : Option A) → ((x : A) → P x → Q x) → MatchOption o B P → MatchOption o (Unit {0}) Q
+match_map B P Q None f m = tt
+match_map B P Q (Some x) f m = f x m
+
+last_below : (xs : List ℕ) (o : Option (Bor ℕ)) (end : ℕ) → MatchOption o (length xs ≤ 0) (λ x. (0 < length xs) × HoldsAt (λ y. x.now ≡ y) xs (length xs - 1))
+    → MatchOption o (Unit {0}) (λ x. x.now < end) → 0 < length xs → get_or xs (length xs - 1) 0 < end
+last_below xs None end m h lt = absurd (omega arith)
+last_below xs (Some x) end m h lt = let e = m.1 0 in omega arith
+
+-- positions that ascend are below an end if the last is; the facts are those of `last` and `is_some_and`
+pub all_below_last : (xs : List ℕ) (o : Option (Bor ℕ)) (end : ℕ) (B : Type 0) (P : Bor ℕ → Type 0) → Ascends xs (length xs)
+    → MatchOption o (length xs ≤ 0) (λ x. (0 < length xs) × HoldsAt (λ y. x.now ≡ y) xs (length xs - 1)) → MatchOption o B P → ((x : Bor ℕ) → P x → x.now < end)
+    → (s : ℕ) → s < length xs → get_or xs s 0 < end
+all_below_last xs o end B P asc m h f s lt =
+    let top = last_below xs o end m (match_map B P _ o f h) (omega arith) in
+    elim (cases_eq s (length xs - 1)) [
+      | inl e ↦ rw e top
+      | inr e ↦ let b = asc s (length xs - 1) (omega arith) (omega arith) in omega arith
+    ]

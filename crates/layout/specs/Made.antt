@@ -1,11 +1,12 @@
 -- What the makers of shapes and loss lists answer.
-use Rattle.std.specs.Prelude.{◌≡◌, ℕ, ◌-◌, ◌^◌, ◌<◌, ◌≤◌, cond, ◌&&◌, ◌⊎◌, List, [], length, take, Some, None, Ok, Err, Option, Result, ◌==◌, nat_le, nat_lt}
+use Rattle.std.specs.Prelude.{◌≡◌, ℕ, ◌+◌, ◌-◌, ◌^◌, ◌<◌, ◌≤◌, cond, ◌&&◌, ◌⊎◌, List, [], ◌∷◌, ◌++◌, length, take, Some, None, Ok, Err, Option, Result, ◌==◌, nat_le, nat_lt}
 use Rattle.refusal.specs.declared.Refusal.{Refusal}
 use Rattle.refusal.specs.Numbers.{said}
 use Rattle.layout.specs.declared.shape.Dimensions.{Dimensions}
 use Rattle.layout.specs.declared.shape.Shape.{Shape}
 use Rattle.layout.specs.declared.losses.LossList.{LossList}
 use Rattle.layout.specs.Rules.{InOrder}
+use Rattle.layout.specs.Sizes.{lost}
 
 -- the dimensions of a shape
 abbrev pub dimensions_of : Shape → Dimensions
@@ -45,3 +46,26 @@ LossesRefused s xs e =
 abbrev pub LossesMade : Shape → List ℕ → Result LossList Refusal → Type 0
 LossesMade s xs (Ok l) = Listed s xs l
 LossesMade s xs (Err e) = LossesRefused s xs (said e)
+
+-- a position lies below an end, and all of a list below it
+abbrev pub Follows : LossList → ℕ → ℕ → Type 0
+Follows l position end = (position < end) × ((s : ℕ) → s < l.len → lost l s < position)
+
+-- the refusal of one position more
+abbrev pub PushRefused : Shape → LossList → ℕ → ℕ × List ℕ → Type 0
+PushRefused s l position e =
+    ((Follows l position s.positions → ⊥) × (e ≡ (6, []))) ⊎ (Follows l position s.positions × (s.positions - s.sources ≤ l.len) × (e ≡ (7, [])))
+
+-- the position stands behind the others
+pub record Added (s : Shape) (before : LossList) (position : ℕ) (after : LossList) : Type 0 where
+  pub follows : Follows before position s.positions
+  pub room : before.len < s.positions - s.sources
+  pub positions : lost_at after ≡ lost_at before ++ position ∷ []
+  pub len : after.len ≡ before.len + 1
+  pub kept : (k : ℕ) → k < before.len → lost after k ≡ lost before k
+  pub last : lost after before.len ≡ position
+
+-- the position stands behind the others, or the list is as it was
+abbrev pub Pushed : Shape → LossList → ℕ → LossList → Result (Unit {0}) Refusal → Type 0
+Pushed s before position after (Ok u) = Added s before position after
+Pushed s before position after (Err e) = (after ≡ before) × PushRefused s before position (said e)

@@ -1,69 +1,65 @@
 -- The positions that a block does not hold, collected one after another.
-use Rattle.std.proofs.Common.{◌≡◌, ℕ, zero, suc, ◌+◌, ◌-◌, ◌<◌, ◌≤◌, Bool, true, false, not, leb, List, [], length, get_or, take, set, Some, None, Ok, Err, Result, sym, refl, ap, ◌∙◌, inl, inr, add-zero, add-suc, add-one, arith, get_or-set_other, get_or-set_same}
+use Rattle.std.proofs.Common.{◌≡◌, ℕ, zero, suc, ◌+◌, ◌-◌, ◌<◌, ◌≤◌, Bool, true, false, not, leb, [], Some, None, Ok, Err, sym, refl, ap, ◌∙◌, inl, inr, add-zero, add-suc, add-one, arith}
 use native.Mathlib.Decide.{ℕ_discrete}
-use Rattle.std.proofs.lemmas.List.{get_or-take}
 use Rattle.std.proofs.lemmas.Bool.{cases_Bool, cond-true, cond-false}
 use Rattle.refusal.specs.declared.Refusal.{Refusal}
 use Rattle.algebra.specs.Code.{count, among}
-use Rattle.algebra.proofs.Marks.{Rising, Below, among_at, among_skip, among_off, among_ext}
+use Rattle.algebra.proofs.Marks.{Below, among_at, among_skip, among_off, among_ext}
 use Rattle.layout.specs.declared.shape.Shape.{Shape}
 use Rattle.layout.specs.declared.losses.LossList.{LossList}
 use Rattle.layout.specs.Sizes.{parity_of, lost}
-use Rattle.layout.specs.Made.{LossesMade}
+use Rattle.layout.specs.Made.{Pushed}
+use Rattle.refusal.specs.Numbers.{said}
 use Rattle.store.specs.Grids.{Grid}
 use Rattle.receiver.specs.Calls.{held_in}
 use Rattle.receiver.specs.Repairs.{few_refusal}
 use Rattle.receiver.specs.Steps.{Repairable, Listed}
 use Rattle.receiver.proofs.Counts.{count_none, count_marked, count_unmarked}
 
--- the first t entries of xs are the positions below n that are not held, in ascending order
-pub record Collected (held : ℕ → Bool) (n : ℕ) (xs : List ℕ) (t : ℕ) : Type 0 where
-  pub up : Rising (λ k. get_or xs k 0) t
-  pub below : Below (λ k. get_or xs k 0) t n
-  pub same : (q : ℕ) → q < n → among (λ k. get_or xs k 0) t q ≡ not (held q)
-  pub number : count held n + t ≡ n
+-- the list has the positions below n that are not held, in ascending order
+pub record Collected (held : ℕ → Bool) (n : ℕ) (s : Shape) (l : LossList) : Type 0 where
+  pub below : Below (lost l) l.len n
+  pub same : (q : ℕ) → q < n → among (lost l) l.len q ≡ not (held q)
+  pub number : count held n + l.len ≡ n
+  pub few : l.len ≤ parity_of s
 
-module _ (held : ℕ → Bool) where
-  pub collected_none : (xs : List ℕ) → Collected held 0 xs 0
-  collected_none xs = record {
-    up = λ i j a b. absurd (omega arith);
+module _ (held : ℕ → Bool) (s : Shape) where
+  pub collected_none : (l : LossList) → l.len ≡ 0 → Collected held 0 s l
+  collected_none l e = record {
     below = λ k h. absurd (omega arith);
     same = λ q h. absurd (omega arith);
-    number = let e = count_none held in omega arith;
+    number = let z = count_none held in omega arith;
+    few = omega arith;
   }
 
-  module _ (n : ℕ) (xs : List ℕ) (t : ℕ) (c : Collected held n xs t) where
+  module _ (n : ℕ) (l : LossList) (c : Collected held n s l) where
     -- position n is held
-    pub collected_held : held n ≡ true → Collected held (n + 1) xs t
+    pub collected_held : held n ≡ true → Collected held (n + 1) s l
     collected_held e = record {
-      up = c.up;
       below = λ k h. let b = c.below k h in omega arith;
       same = λ q h. elim (ℕ_discrete q n) [
-        | yes z ↦ rw z (among_off (λ k. get_or xs k 0) t n (λ k l d. let b = c.below k l in omega arith) ∙ sym (ap not e))
+        | yes z ↦ rw z (among_off (lost l) l.len n (λ k h d. let b = c.below k h in omega arith) ∙ sym (ap not e))
         | no z ↦ c.same q (omega arith)
       ];
       number = let m = count_marked held n (count held n) refl e in let k = c.number in omega arith;
+      few = c.few;
     }
 
-    -- position n is not held
-    pub collected_missing : held n ≡ false → t < length xs → Collected held (n + 1) (set xs t n) (t + 1)
-    collected_missing e lt =
-        let off : (k : ℕ) → k < t → get_or (set xs t n) k 0 ≡ get_or xs k 0 = λ k h. get_or-set_other xs t k n 0 (λ z. omega arith) in
-        let at : get_or (set xs t n) t 0 ≡ n = get_or-set_same xs t n 0 lt in
+    -- position n is not held, and stands in the list now
+    pub collected_missing : held n ≡ false → (after : LossList) → Pushed s l n after (Ok tt) → Collected held (n + 1) s after
+    collected_missing e after p =
+        let len = p.len in
         record {
-          up = λ i j a b. rw (off i (omega arith)) (elim (ℕ_discrete j t) [
-            | yes z ↦ rw (z, at) (c.below i (omega arith))
-            | no z ↦ rw (off j (omega arith)) (c.up i j a (omega arith))
-          ]);
-          below = λ k h. elim (ℕ_discrete k t) [
-            | yes z ↦ rw (z, at) (omega arith)
-            | no z ↦ rw (off k (omega arith)) (let b = c.below k (omega arith) in omega arith)
+          below = λ k h. elim (ℕ_discrete k l.len) [
+            | yes z ↦ rw (z, p.last) (omega arith)
+            | no z ↦ rw (p.kept k (omega arith)) (let b = c.below k (omega arith) in omega arith)
           ];
-          same = λ q h. ap (λ m. among (λ k. get_or (set xs t n) k 0) m q) (add-one t) ∙ elim (ℕ_discrete q n) [
-            | yes z ↦ rw z (ap (among (λ k. get_or (set xs t n) k 0) (suc t)) (sym at) ∙ among_at (λ k. get_or (set xs t n) k 0) (suc t) t (omega arith) ∙ sym (ap not e))
-            | no z ↦ among_skip (λ k. get_or (set xs t n) k 0) t q (λ d. z (d ∙ at)) ∙ among_ext _ (λ k. get_or xs k 0) t q off ∙ c.same q (omega arith)
+          same = λ q h. ap (λ m. among (lost after) m q) (len ∙ add-one l.len) ∙ elim (ℕ_discrete q n) [
+            | yes z ↦ rw z (ap (among (lost after) (suc l.len)) (sym p.last) ∙ among_at (lost after) (suc l.len) l.len (omega arith) ∙ sym (ap not e))
+            | no z ↦ among_skip (lost after) l.len q (λ d. z (d ∙ p.last)) ∙ among_ext _ (lost l) l.len q p.kept ∙ c.same q (omega arith)
           ];
           number = let m = count_unmarked held n (count held n) refl e in let k = c.number in omega arith;
+          few = let lt = p.room in omega arith;
         }
 
 -- of the next d positions at most d are held
@@ -79,8 +75,8 @@ count_most held k (suc d) =
 
 module _ (s : Shape) (g : Grid) (i : ℕ) where
   -- one position more is missing than the block has parity positions
-  pub too_few : (n : ℕ) (xs : List ℕ) (t : ℕ) → Collected (held_in g i) n xs t → n < s.positions → parity_of s ≤ t → held_in g i n ≡ false → few_refusal s g i ≡ Some (7, [])
-  too_few n xs t c lt le e =
+  too_few : (n : ℕ) (l : LossList) → Collected (held_in g i) n s l → n < s.positions → parity_of s ≤ l.len → held_in g i n ≡ false → few_refusal s g i ≡ Some (7, [])
+  too_few n l c lt le e =
       let held = held_in g i in
       let rest = s.positions - (n + 1) in
       let most : count held (n + 1 + rest) ≤ count held (n + 1) + rest = count_most held (n + 1) rest in
@@ -92,35 +88,20 @@ module _ (s : Shape) (g : Grid) (i : ℕ) where
       let few : leb s.sources (count held s.positions) ≡ false = grind arith in
       cond-false (leb s.sources (count held s.positions)) None (Some (7, [])) few
 
-  -- the list that is made of the positions
-  module _ (xs : List ℕ) (t : ℕ) (c : Collected (held_in g i) s.positions xs t) (few : t ≤ parity_of s) (long : length (take t xs) ≡ t) where
-    entry : (k : ℕ) → k < t → get_or (take t xs) k 0 ≡ get_or xs k 0
-    entry k h = get_or-take t xs k 0 h
+  -- a missing position is refused only if too many are missing
+  pub push_refused : (n : ℕ) (l after : LossList) (e : Refusal) → Collected (held_in g i) n s l → n < s.positions → held_in g i n ≡ false → Pushed s l n after (Err e) → few_refusal s g i ≡ Some (said e)
+  push_refused n l after e c lt h p = elim p.1 [
+    | inl b ↦ absurd (b.0 (lt, λ k m. c.below k m))
+    | inr b ↦ too_few n l c lt b.1 h ∙ ap (λ x. Some x) (sym b.2)
+  ]
 
-    pub made_repairable : (r : Result LossList Refusal) → LossesMade s (take t xs) r → Repairable s r
-    made_repairable (Ok l) m =
-        let at : (k : ℕ) → k < l.len → lost l k ≡ get_or (take t xs) k 0 = λ k h. sym (get_or-take l.len l.at k 0 h) ∙ ap (λ v. get_or v k 0) m.at in
-        (let e = m.len in let b = m.enough in omega arith, λ k h. rw (at k h) (m.order.1 k (let e = m.len in omega arith)))
-    made_repairable (Err e) m = tt
-
-    pub made_listed : (r : Result LossList Refusal) → LossesMade s (take t xs) r → Listed s g i r
-    made_listed (Ok l) m =
-        let e = m.len in
-        let at : (k : ℕ) → k < l.len → lost l k ≡ get_or xs k 0 = λ k h. sym (get_or-take l.len l.at k 0 h) ∙ ap (λ v. get_or v k 0) m.at ∙ entry k (omega arith) in
-        let size : l.len ≡ t = omega arith in
-        let n = c.number in
-        let w = s.counts in
-        let enough : leb s.sources (count (held_in g i) s.positions) ≡ true = grind arith in (
-          record {
-            same = λ q h. among_ext (lost l) (λ k. get_or xs k 0) l.len q at ∙ ap (λ v. among (λ k. get_or xs k 0) v q) size ∙ c.same q h;
-            below = λ k h. rw (at k h) (c.below k (omega arith));
-            few = omega arith;
-          },
-          cond-true (leb s.sources (count (held_in g i) s.positions)) None (Some (7, [])) enough,
-        )
-    made_listed (Err e) (inl m) =
-        absurd (m.0 (
-          λ a b h k. rw (entry a (omega arith), entry b (omega arith)) (c.up a b h (omega arith)),
-          λ k h. rw (entry k (omega arith)) (c.below k (omega arith)),
-        ))
-    made_listed (Err e) (inr m) = absurd (let k = m.1 in omega arith)
+  -- all positions are gone through
+  pub all_listed : (l : LossList) → Collected (held_in g i) s.positions s l → Repairable s (Ok l) × Listed s g i (Ok l)
+  all_listed l c =
+      let n = c.number in
+      let w = s.counts in
+      let f = c.few in
+      let enough : leb s.sources (count (held_in g i) s.positions) ≡ true = grind arith in (
+        (c.few, c.below),
+        (record { same = c.same; below = c.below; few = c.few }, cond-true (leb s.sources (count (held_in g i) s.positions)) None (Some (7, [])) enough),
+      )

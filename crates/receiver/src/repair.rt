@@ -24,22 +24,17 @@ fn missing<S: SlotStore>(store: &S, shape: &Shape, block: usize) -> Result<LossL
     ensures few { Repairable shape.now result }
     ensures listed { Fitted shape.now.rows shape.now (S.SlotStore.grid store.now) → Listed shape.now (S.SlotStore.grid store.now) block result }
 {
-    let mut positions = [0; 32];
-    let mut count = 0;
+    let mut losses = LossList::none();
     for position in 0..shape.positions() {
         let slot = Slot {
             row: block,
             column: position,
         };
         if !store.held(slot)? {
-            if count >= shape.parity() {
-                return Err(Refusal::TooFew);
-            }
-            positions[count] = position;
-            count += 1;
+            losses.push(shape, position)?;
         }
     }
-    LossList::new(shape, &positions[0..count])
+    Ok(losses)
 }
 
 // Adds the packets that a block holds to sums that are zero at first, each by way of `scratch`.

@@ -2,7 +2,7 @@ ghost use Rattle.std.specs.Prelude.{◌≡◌, ℕ, ◌-◌, ◌<◌, length, sl
 ghost use Rattle.algebra.specs.Code.{among};
 ghost use Rattle.layout.specs.Rules.{Ordered};
 ghost use Rattle.layout.specs.Sizes.{lost};
-ghost use Rattle.layout.specs.Made.{LossesMade, lost_at};
+ghost use Rattle.layout.specs.Made.{LossesMade, Pushed, lost_at};
 
 use super::LossList;
 use crate::shape::Shape;
@@ -54,6 +54,23 @@ impl LossList {
             at: array::from_fn(|s| s),
             len: shape.parity(),
         }
+    }
+
+    // Adds a position behind those of the list, for a shape; a refusal leaves the list.
+    pub fn push(&mut self, shape: &Shape, position: usize) -> Result<(), Refusal>
+        ensures { Pushed shape.now self.old position self.new result }
+    {
+        if position >= shape.positions()
+            || self.positions().last().is_some_and(|p| *p >= position)
+        {
+            return Err(Refusal::BadLosses);
+        }
+        if self.len >= shape.parity() {
+            return Err(Refusal::TooFew);
+        }
+        self.at[self.len] = position;
+        self.len += 1;
+        Ok(())
     }
 
     // Whether a position is lost.
