@@ -16,7 +16,7 @@ use Rattle.layout.proofs.Entries.{entry_read}
 use Rattle.store.specs.Grids.{Grid, packet_or}
 use Rattle.code.specs.Lost.{AgreeOff}
 use Rattle.code.specs.Lost.{LostPackets}
-use Rattle.receiver.specs.Meaning.{IsPacket, Fitted}
+use Rattle.receiver.specs.Sound.{IsPacket, Fitted}
 use Rattle.receiver.specs.Blocks.{block_of, Missing, Agrees}
 use Rattle.receiver.specs.Repairs.{Completes}
 use Rattle.receiver.specs.Steps.{Put}

@@ -6,7 +6,8 @@ use Rattle.refusal.specs.Numbers.{said, or_else}
 use Rattle.layout.specs.declared.shape.Shape.{Shape}
 use Rattle.layout.specs.Sizes.{packet_of}
 use Rattle.store.specs.Grids.{Grid, inside, get_refusal}
-use Rattle.receiver.specs.Meaning.{Meaning, Fitted}
+use Rattle.receiver.specs.Sound.{Fitted}
+use Rattle.receiver.specs.Meaning.{Meaning}
 use Rattle.receiver.specs.Calls.{of_shape, place_refusal, length_refusal, empty_refusal, fetch_refusal}
 
 empty_is : (o : Option (List ℕ)) → cond (is_some o) None (Some (said SlotEmpty)) ≡ empty_refusal o

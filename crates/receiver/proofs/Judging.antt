@@ -16,7 +16,8 @@ use Rattle.store.specs.Grids.{Grid, packet_or}
 use Rattle.code.specs.Lost.{NoPackets}
 use Rattle.code.proofs.Fitting.{fits_several}
 use Rattle.receiver.specs.declared.Whole.{Whole}
-use Rattle.receiver.specs.Meaning.{Meaning, Fitted}
+use Rattle.receiver.specs.Sound.{Fitted}
+use Rattle.receiver.specs.Meaning.{Meaning}
 use Rattle.receiver.specs.Calls.{of_shape, block_refusal, held_in}
 use Rattle.receiver.specs.Blocks.{block_of, Missing, Agrees, One, Several, NoCodeword, Contradictory}
 use Rattle.receiver.specs.Repairs.{few_refusal, repair_refusal, Completes, AfterRepair, Judged}

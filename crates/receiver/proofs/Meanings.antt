@@ -1,9 +1,11 @@
 -- What a receiver stands for, after its store refused, and after a slot was filled.
-use Rattle.std.proofs.Common.{◌≡◌, ℕ, List, Some, Option, sym, ap, ◌∙◌, subst, inl, inr}
+use Rattle.std.proofs.Common.{◌≡◌, ℕ, List, Some, Ok, Err, Option, Result, sym, ap, ◌∙◌, subst, inl, inr}
 use Rattle.std.proofs.lemmas.Bool.{cases_eq}
 use Rattle.layout.specs.declared.shape.Shape.{Shape}
-use Rattle.store.specs.Grids.{Grid, Filled}
-use Rattle.receiver.specs.Meaning.{Meaning, IsPacket, Fitted, Sound}
+use Rattle.refusal.specs.declared.Refusal.{Refusal}
+use Rattle.store.specs.Grids.{Grid, Filled, AfterPut}
+use Rattle.receiver.specs.Sound.{IsPacket, Fitted, Sound}
+use Rattle.receiver.specs.Meaning.{Meaning}
 
 -- with the same capacity and the same grid it stands for the same
 pub same_meaning : (o : Option Shape) (c c' : ℕ) (g g' : Grid) → c' ≡ c → g' ≡ g
@@ -30,9 +32,15 @@ filled_fitted bits s g h i j ws F P L = record {
 }
 
 -- a receiver of the shape s stays sound when a slot is filled with a packet of the shape
-pub filled_sound : (bits : ℕ) (s : Shape) (m : Meaning) (h : Grid) (i j : ℕ) (ws : List ℕ) → m.shape ≡ Some s → IsPacket s ws → Filled m.grid i j ws h → Sound bits m
+pub filled_sound : (bits : ℕ) (s : Shape) (m : Meaning) (h : Grid) (i j : ℕ) (ws : List ℕ) → m.shape ≡ Some s → IsPacket s ws → Filled m.grid i j ws h → Sound bits m.shape m.grid
     → (t : Shape) → m.shape ≡ Some t → Fitted bits t h
 filled_sound bits s m h i j ws is P L S t e =
     let k : Some s ≡ Some t = sym is ∙ e in
     let v : s ≡ t = cc in
     filled_fitted bits t m.grid h i j ws (S t e) (subst (λ (u : Shape). IsPacket u ws) v P) L
+
+-- it stays sound when a packet of the shape is put, whatever the store answers
+pub put_sound : (bits : ℕ) (s : Shape) (m : Meaning) (h : Grid) (i j : ℕ) (ws : List ℕ) (r : Result (Unit {0}) Refusal) → m.shape ≡ Some s → IsPacket s ws → AfterPut r m.grid i j ws h → Sound bits m.shape m.grid
+    → Sound bits m.shape h
+put_sound bits s m h i j ws (Ok u) is P L S = filled_sound bits s m h i j ws is P L S
+put_sound bits s m h i j ws (Err e) is P L S = λ t it. subst (λ k. Fitted bits t k) (sym L) (S t it)

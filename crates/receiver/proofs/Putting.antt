@@ -9,7 +9,7 @@ use Rattle.layout.specs.declared.shape.Shape.{Shape}
 use Rattle.layout.specs.declared.losses.LossList.{LossList}
 use Rattle.layout.specs.Sizes.{packet_of, lost}
 use Rattle.store.specs.Grids.{Grid, Filled, inside, put_refusal}
-use Rattle.receiver.specs.Meaning.{Fitted}
+use Rattle.receiver.specs.Sound.{Fitted}
 use Rattle.receiver.specs.Blocks.{Missing}
 use Rattle.receiver.specs.Steps.{Put}
 

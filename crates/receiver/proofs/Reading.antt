@@ -6,7 +6,7 @@ use Rattle.layout.specs.declared.shape.Shape.{Shape}
 use Rattle.layout.specs.Sizes.{packet_of}
 use Rattle.layout.specs.Blocks.{code_of, packet_in}
 use Rattle.store.specs.Grids.{Grid, inside, get_refusal, packet_or}
-use Rattle.receiver.specs.Meaning.{Fitted}
+use Rattle.receiver.specs.Sound.{Fitted}
 use Rattle.receiver.specs.Blocks.{block_of}
 
 -- what a filled slot holds does not depend on what stands in for an empty one

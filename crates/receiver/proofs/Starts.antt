@@ -7,7 +7,8 @@ use Rattle.layout.specs.declared.shape.Shape.{Shape}
 use Rattle.layout.specs.Sizes.{packet_of}
 use Rattle.layout.specs.Made.{dimensions_of, shape_refusal}
 use Rattle.store.specs.Grids.{Grid, format_refusal, Emptied}
-use Rattle.receiver.specs.Meaning.{Meaning, Fitted}
+use Rattle.receiver.specs.Sound.{Fitted}
+use Rattle.receiver.specs.Meaning.{Meaning}
 use Rattle.receiver.specs.Calls.{start_refusal, Starts}
 
 -- dimensions of which a shape is made have the arithmetic's width

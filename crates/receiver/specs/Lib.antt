@@ -1,3 +1,4 @@
+pub mod Sound
 pub mod Meaning
 pub mod Calls
 pub mod Blocks

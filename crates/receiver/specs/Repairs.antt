@@ -9,7 +9,8 @@ use Rattle.layout.specs.Checks.{run_refusal}
 use Rattle.layout.specs.Blocks.{code_of, ZeroRun}
 use Rattle.store.specs.Grids.{Grid}
 use Rattle.receiver.specs.declared.Whole.{Whole}
-use Rattle.receiver.specs.Meaning.{Meaning, IsPacket}
+use Rattle.receiver.specs.Sound.{IsPacket}
+use Rattle.receiver.specs.Meaning.{Meaning}
 use Rattle.receiver.specs.Calls.{of_shape, block_refusal, held_in}
 use Rattle.receiver.specs.Blocks.{block_of, Agrees, One, Several, NoCodeword, Contradictory}
 

@@ -11,7 +11,7 @@ use Rattle.store.specs.Grids.{Grid}
 use Rattle.code.specs.Sums.{SumsTo}
 use Rattle.code.specs.Lost.{NoPackets}
 use Rattle.receiver.specs.declared.Whole.{Whole}
-use Rattle.receiver.specs.Meaning.{Fitted}
+use Rattle.receiver.specs.Sound.{Fitted}
 use Rattle.receiver.specs.Blocks.{block_of, Missing}
 use Rattle.receiver.specs.Repairs.{few_refusal, Completes}
 

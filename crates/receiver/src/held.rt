@@ -2,7 +2,8 @@
 ghost use Rattle.std.specs.Prelude.{◌≡◌};
 ghost use Rattle.refusal.specs.Numbers.{refused_with};
 ghost use Rattle.store.specs.Grids.{after_get};
-ghost use Rattle.receiver.specs.Meaning.{means, Sound};
+ghost use Rattle.receiver.specs.Sound.{Sound};
+ghost use Rattle.receiver.specs.Meaning.{means};
 ghost use Rattle.receiver.specs.Calls.{fetch_refusal, count_refusal, Counted};
 
 use crate::Receiver;
@@ -14,7 +15,7 @@ use store::slots::Slot;
 impl<F: Arithmetic, S: SlotStore> Receiver<F, S> {
     // Copies the packet of a block and a position into `run`.
     pub fn fetch(&self, block: usize, position: usize, run: &mut [u32]) -> Result<(), Refusal>
-        ensures answer { Sound F.Arithmetic.bits (means S.SlotStore.capacity S.SlotStore.grid self.now) → refused_with result ≡ fetch_refusal (means S.SlotStore.capacity S.SlotStore.grid self.now) block position run.old }
+        ensures answer { refused_with result ≡ fetch_refusal (means self.now) block position run.old }
         ensures after { run.new ≡ after_get result (S.SlotStore.grid self.now.store) block position run.old }
     {
         let shape = self.shape()?;
@@ -33,8 +34,8 @@ impl<F: Arithmetic, S: SlotStore> Receiver<F, S> {
 
     // How many positions of a block are held.
     pub fn count(&self, block: usize) -> Result<usize, Refusal>
-        ensures answer { Sound F.Arithmetic.bits (means S.SlotStore.capacity S.SlotStore.grid self.now) → refused_with result ≡ count_refusal (means S.SlotStore.capacity S.SlotStore.grid self.now) block }
-        ensures counted { Counted (means S.SlotStore.capacity S.SlotStore.grid self.now) block result }
+        ensures answer { refused_with result ≡ count_refusal (means self.now) block }
+        ensures counted { Counted (means self.now) block result }
     {
         let shape = self.shape()?;
         if block >= shape.blocks() {

@@ -1,15 +1,13 @@
 // A board's receiver: frames in, packets kept in the slots of a store, blocks repaired, packets out.
 #![tactic(auto)]
 
-ghost use Rattle.std.specs.Prelude.{◌≡◌, None};
-ghost use Rattle.receiver.specs.Meaning.{means, Sound};
-ghost use Rattle.receiver.specs.Calls.{ShapeSaid};
+ghost use Rattle.receiver.specs.Sound.{Sound};
 
 use field::Arithmetic;
 use layout::shape::Shape;
-use refusal::Refusal;
 use store::SlotStore;
 
+pub mod blank;
 pub mod held;
 pub mod repair;
 pub mod take;
@@ -18,10 +16,12 @@ mod tests;
 
 // Keeps the packets of one transmission at a time. It is blank until a shape is set.
 #[derive(Drop)]
-pub struct Receiver<F, S> {
+pub struct Receiver<F: Arithmetic, S: SlotStore> {
     arithmetic: F,
     store: S,
     shape: Option<Shape>,
+    // The store fits the shape, once one is set.
+    ghost sound: { Sound F.Arithmetic.bits shape (S.SlotStore.grid store) },
 }
 
 // What a frame did.
@@ -39,26 +39,4 @@ pub enum Taken {
 #[derive(Clone, Copy, PartialEq, Eq, Debug)]
 pub struct Whole {
     pub restored: usize,
-}
-
-impl<F: Arithmetic, S: SlotStore> Receiver<F, S> {
-    // A blank receiver over a store.
-    pub fn new(arithmetic: F, store: S) -> Receiver<F, S>
-        ensures blank { result.shape ≡ None }
-        ensures store { result.store ≡ store }
-        ensures sound { Sound F.Arithmetic.bits (means S.SlotStore.capacity S.SlotStore.grid result) }
-    {
-        Receiver {
-            arithmetic,
-            store,
-            shape: None,
-        }
-    }
-
-    // The shape; refused while none is set.
-    fn shape(&self) -> Result<Shape, Refusal>
-        ensures { ShapeSaid self.now.shape result }
-    {
-        self.shape.ok_or(Refusal::NoShape)
-    }
 }

@@ -2,7 +2,8 @@
 ghost use Rattle.std.specs.Prelude.{◌≡◌, ℕ, ◌^◌, ◌<◌, ◌≤◌, length, slice_index};
 ghost use Rattle.layout.specs.Sizes.{parity_of, packet_of, Packets, LostBelow};
 ghost use Rattle.layout.specs.Blocks.{ZeroRun};
-ghost use Rattle.receiver.specs.Meaning.{means, Fitted, Sound};
+ghost use Rattle.receiver.specs.Sound.{Fitted, Sound};
+ghost use Rattle.receiver.specs.Meaning.{means};
 ghost use Rattle.receiver.specs.Blocks.{Missing};
 ghost use Rattle.receiver.specs.Steps.{Repairable, Listed, HeldSummed, AllPut, Mended};
 ghost use Rattle.receiver.specs.Repairs.{AfterRepair, Judges};
@@ -120,9 +121,8 @@ fn mend<F: Arithmetic, S: SlotStore>(
 impl<F: Arithmetic, S: SlotStore> Receiver<F, S> {
     // Restores the packets of a block that are missing.
     pub fn repair(&mut self, block: usize, work: &mut [u32]) -> Result<Whole, Refusal>
-        ensures after { Sound F.Arithmetic.bits (means S.SlotStore.capacity S.SlotStore.grid self.old) → AfterRepair F.Arithmetic.prod (means S.SlotStore.capacity S.SlotStore.grid self.old) block work.old work.new result (means S.SlotStore.capacity S.SlotStore.grid self.new) }
-        ensures judged { Sound F.Arithmetic.bits (means S.SlotStore.capacity S.SlotStore.grid self.old) → Judges F.Arithmetic.prod (means S.SlotStore.capacity S.SlotStore.grid self.old) block work.old result }
-        ensures sound { Sound F.Arithmetic.bits (means S.SlotStore.capacity S.SlotStore.grid self.old) → Sound F.Arithmetic.bits (means S.SlotStore.capacity S.SlotStore.grid self.new) }
+        ensures after { AfterRepair F.Arithmetic.prod (means self.old) block work.old work.new result (means self.new) }
+        ensures judged { Judges F.Arithmetic.prod (means self.old) block work.old result }
         ensures shut { S.SlotStore.lock self.old.store ≡ 0 → S.SlotStore.lock self.new.store ≡ 0 }
     {
         let shape = self.shape()?;

@@ -2,7 +2,8 @@
 ghost use Rattle.std.specs.Prelude.{◌≡◌, ◌≤◌, length, Some};
 ghost use Rattle.refusal.specs.Numbers.{refused_with};
 ghost use Rattle.frame.specs.Frames.{parse};
-ghost use Rattle.receiver.specs.Meaning.{means, Sound};
+ghost use Rattle.receiver.specs.Sound.{Sound};
+ghost use Rattle.receiver.specs.Meaning.{means};
 ghost use Rattle.receiver.specs.Calls.{start_refusal, TookShape, Compared, packet_refusal, TookPacket, take_refusal, Took};
 
 use crate::{Receiver, Taken};
@@ -19,9 +20,8 @@ const LONGEST: usize = 160;
 impl<F: Arithmetic, S: SlotStore> Receiver<F, S> {
     // Sets a shape of these dimensions, and formats the store for it.
     fn start(&mut self, dimensions: Dimensions) -> Result<Taken, Refusal>
-        ensures answer { refused_with result ≡ start_refusal F.Arithmetic.bits (means S.SlotStore.capacity S.SlotStore.grid self.old) dimensions }
-        ensures after { TookShape (means S.SlotStore.capacity S.SlotStore.grid self.old) dimensions result (means S.SlotStore.capacity S.SlotStore.grid self.new) }
-        ensures sound { Sound F.Arithmetic.bits (means S.SlotStore.capacity S.SlotStore.grid self.old) → Sound F.Arithmetic.bits (means S.SlotStore.capacity S.SlotStore.grid self.new) }
+        ensures answer { refused_with result ≡ start_refusal F.Arithmetic.bits (means self.old) dimensions }
+        ensures after { TookShape (means self.old) dimensions result (means self.new) }
         ensures shut { S.SlotStore.lock self.old.store ≡ 0 → S.SlotStore.lock self.new.store ≡ 0 }
     {
         let shape = Shape::new::<F>(dimensions)?;
@@ -54,9 +54,8 @@ impl<F: Arithmetic, S: SlotStore> Receiver<F, S> {
         payload: &[u32],
     ) -> Result<Taken, Refusal>
         requires { self.old.shape ≡ Some shape }
-        ensures answer { Sound F.Arithmetic.bits (means S.SlotStore.capacity S.SlotStore.grid self.old) → refused_with result ≡ packet_refusal (means S.SlotStore.capacity S.SlotStore.grid self.old) block position payload.now }
-        ensures after { TookPacket (means S.SlotStore.capacity S.SlotStore.grid self.old) block position payload.now result (means S.SlotStore.capacity S.SlotStore.grid self.new) }
-        ensures sound { Sound F.Arithmetic.bits (means S.SlotStore.capacity S.SlotStore.grid self.old) → Sound F.Arithmetic.bits (means S.SlotStore.capacity S.SlotStore.grid self.new) }
+        ensures answer { refused_with result ≡ packet_refusal (means self.old) block position payload.now }
+        ensures after { TookPacket (means self.old) block position payload.now result (means self.new) }
         ensures shut { S.SlotStore.lock self.old.store ≡ 0 → S.SlotStore.lock self.new.store ≡ 0 }
     {
         if payload.len() != shape.packet() {
@@ -81,9 +80,8 @@ impl<F: Arithmetic, S: SlotStore> Receiver<F, S> {
 
     // Takes a frame: a shape starts a transmission, also in the midst of one; a packet goes into its slot.
     pub fn take(&mut self, words: &[u32]) -> Result<Taken, Refusal>
-        ensures answer { Sound F.Arithmetic.bits (means S.SlotStore.capacity S.SlotStore.grid self.old) → refused_with result ≡ take_refusal F.Arithmetic.bits (means S.SlotStore.capacity S.SlotStore.grid self.old) (parse words.now) }
-        ensures after { Took (means S.SlotStore.capacity S.SlotStore.grid self.old) (parse words.now) result (means S.SlotStore.capacity S.SlotStore.grid self.new) }
-        ensures sound { Sound F.Arithmetic.bits (means S.SlotStore.capacity S.SlotStore.grid self.old) → Sound F.Arithmetic.bits (means S.SlotStore.capacity S.SlotStore.grid self.new) }
+        ensures answer { refused_with result ≡ take_refusal F.Arithmetic.bits (means self.old) (parse words.now) }
+        ensures after { Took (means self.old) (parse words.now) result (means self.new) }
         ensures shut { S.SlotStore.lock self.old.store ≡ 0 → S.SlotStore.lock self.new.store ≡ 0 }
     {
         match (self.shape, Frame::try_from(words)?) {

@@ -14,8 +14,8 @@ returns-in_err-held g c =
     let s = c.in_ok-shape.shape in
     let G = g.S.SlotStore.grid c.args.self.now.store in
     record {
-      answer = λ S.
-          let F = S s c.in_ok-shape.ensures in
+      answer =
+          let F = c.args.self.now.sound s c.in_ok-shape.ensures in
           let row : c.args.block < G.rows = omega (arith, F.rows, c.blocks-2.ensures.value) in
           let column : c.loop-position.position < G.columns = omega (arith, F.columns, c.positions-position-end.ensures.value) in
           absurd (held_answers G c.args.block c.loop-position.position _ row column c.in_err-held.ensures.answer);

@@ -6,7 +6,8 @@ use Rattle.layout.specs.Blocks.{ZeroRun}
 use Rattle.layout.proofs.Blocks.{zero_front}
 use Rattle.layout.proofs.Passes.{run_passes}
 use Rattle.code.proofs.Stages.{laws_of}
-use Rattle.receiver.specs.Meaning.{means, Fitted}
+use Rattle.receiver.specs.Sound.{Fitted}
+use Rattle.receiver.specs.Meaning.{means}
 use Rattle.receiver.specs.Repairs.{Judged}
 use Rattle.receiver.proofs.Completing.{fitted_own}
 use Rattle.receiver.proofs.Judging.{repair_checks, few_judged, mended_after, mended_judged, mended_fitted, all_positions}
@@ -16,7 +17,7 @@ pub returns-in_err-losses : goal.returns-in_err-losses
 returns-in_err-losses g c =
     let f = g.F.Arithmetic in
     let T = g.S.SlotStore in
-    let m = means T.capacity T.grid c.args.self.now in
+    let m = means c.args.self.now in
     let s = c.in_ok-shape.shape in
     let is : m.shape ≡ Some s = c.in_ok-shape.ensures in
     let i = c.args.block in
@@ -25,13 +26,12 @@ returns-in_err-losses g c =
     let p = err_from_is_err_and c.from_residual-in_err-losses.result c.from_residual-in_err-losses.ensures.1 in
     let few = λ (F : Fitted f.bits s m.grid). c.in_err-losses.ensures.listed (fitted_own f.bits s m.grid F) in
     rw (p.1, p.2) (record {
-      after = λ S. inl (record { refusal = repair_checks s m i c.args.work.now is row long ∙ few (S s is); same = refl; same_work = refl });
-      judged = λ S t it _ _.
+      after = inl (record { refusal = repair_checks s m i c.args.work.now is row long ∙ few (c.args.self.now.sound s is); same = refl; same_work = refl });
+      judged = λ t it _ _.
           let k : Some s ≡ Some t = sym is ∙ it in
           let v : s ≡ t = cc in
-          let F = S s is in
+          let F = c.args.self.now.sound s is in
           subst (λ (u : Shape). Judged u f.prod m.grid i (Err c.in_err-losses.field-0.0)) v (few_judged f.bits s f.prod f.inv m.grid i (laws_of s.rows f.bits f.prod f.inv F.width g.met.F.Arithmetic.field) F _ (few F));
-      sound = λ S. S;
       shut = λ e. e;
     })
 
@@ -55,7 +55,7 @@ pub returns : goal.returns
 returns g c =
     let f = g.F.Arithmetic in
     let T = g.S.SlotStore in
-    let m = means T.capacity T.grid c.args.self.now in
+    let m = means c.args.self.now in
     let s = c.in_ok-shape.shape in
     let is : m.shape ≡ Some s = c.in_ok-shape.ensures in
     let i = c.args.block in
@@ -67,18 +67,31 @@ returns g c =
     let mended = λ (F : Fitted f.bits s m.grid). c.mend-outcome.ensures.mended F (listed F).0 in
     let r = c.mend-outcome.result in
     record {
-      after = λ S.
-          let F = S s is in
+      after =
+          let F = c.args.self.now.sound s is in
           mended_after f.bits s f.prod l m i work c.clear-2.new.run is F row long (listed F).0 (listed F).1 c.clear-2.ensures r _ refl c.mend-outcome.ensures.kept (mended F) (all_positions s m.grid i l (listed F).0);
-      judged = λ S t it _ _.
+      judged = λ t it _ _.
           let k : Some s ≡ Some t = sym is ∙ it in
           let v : s ≡ t = cc in
-          let F = S s is in
+          let F = c.args.self.now.sound s is in
           subst (λ (u : Shape). Judged u f.prod m.grid i r) v (mended_judged f.bits s f.prod l m i work c.clear-2.new.run is F row long (listed F).0 (listed F).1 c.clear-2.ensures r _ (mended F));
-      sound = λ S t it.
+      shut = c.mend-outcome.ensures.shut;
+    }
+
+pub invariant_of-self : goal.invariant_of-self
+invariant_of-self g c =
+    let f = g.F.Arithmetic in
+    let T = g.S.SlotStore in
+    let m = means c.args.self.now in
+    let s = c.in_ok-shape.shape in
+    let is : m.shape ≡ Some s = c.in_ok-shape.ensures in
+    let i = c.args.block in
+    let l = c.in_ok-losses.losses in
+    let F = c.args.self.now.sound s is in
+    let listed = c.in_ok-losses.ensures.listed (fitted_own f.bits s m.grid F) in
+    record {
+      sound = λ t it.
           let k : Some s ≡ Some t = sym is ∙ it in
           let v : s ≡ t = cc in
-          let F = S s is in
-          subst (λ (u : Shape). Fitted f.bits u (T.grid c.mend-outcome.new.store)) v (mended_fitted f.bits s f.prod l m.grid i r _ F (mended F));
-      shut = c.mend-outcome.ensures.shut;
+          subst (λ (u : Shape). Fitted f.bits u (T.grid c.mend-outcome.new.store)) v (mended_fitted f.bits s f.prod l m.grid i c.mend-outcome.result _ F (c.mend-outcome.ensures.mended F listed.0));
     }

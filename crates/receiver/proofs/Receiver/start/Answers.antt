@@ -1,7 +1,8 @@
 use Rattle.std.proofs.Common.{sym, refl, subst}
 use Rattle.std.proofs.lemmas.Result.{err_from_is_err_and}
 use Rattle.store.specs.Grids.{Grid}
-use Rattle.receiver.specs.Meaning.{means, Fitted}
+use Rattle.receiver.specs.Sound.{Fitted}
+use Rattle.receiver.specs.Meaning.{means}
 use Rattle.receiver.proofs.Meanings.{same_meaning}
 use Rattle.receiver.proofs.Starts.{start_answer, starts, start_sound}
 use Rattle.receiver.proofs.Receiver.start.Goals as goal
@@ -16,10 +17,9 @@ returns-in_err-format g c =
     let h = c.in_err-format.ensures in
     let made = c.in_ok-shape.ensures in
     rw (p.1, p.2) (record {
-      answer = start_answer F.bits (means T.capacity T.grid v) c.in_ok-shape.shape a.dimensions
+      answer = start_answer F.bits (means v) c.in_ok-shape.shape a.dimensions
           c.blocks-2.result c.positions.result c.packet.result made.made made.answer c.blocks-2.ensures.value c.positions.ensures.value c.packet.ensures.value _ h.answer;
       after = same_meaning v.shape _ _ _ _ h.kept h.after;
-      sound = λ S s e. subst (λ (k : Grid). Fitted F.bits s k) (sym h.after) (S s e);
       shut = λ _. h.shut;
     })
 
@@ -36,10 +36,20 @@ returns g c =
     let ey = c.positions.ensures.value in
     let ez = c.packet.ensures.value in
     record {
-      answer = start_answer F.bits (means T.capacity T.grid v) s a.dimensions c.blocks-2.result c.positions.result c.packet.result made.made made.answer ex ey ez _ h.answer;
-      after = starts F.bits (means T.capacity T.grid v) s a.dimensions c.blocks-2.result c.positions.result c.packet.result made.made made.answer ex ey ez
+      answer = start_answer F.bits (means v) s a.dimensions c.blocks-2.result c.positions.result c.packet.result made.made made.answer ex ey ez _ h.answer;
+      after = starts F.bits (means v) s a.dimensions c.blocks-2.result c.positions.result c.packet.result made.made made.answer ex ey ez
           _ refl h.kept h.after;
-      sound = λ _. start_sound F.bits (means T.capacity T.grid v) s a.dimensions c.blocks-2.result c.positions.result c.packet.result made.made made.answer ex ey ez
-          (T.grid c.format.new.self) h.after;
       shut = λ _. h.shut;
+    }
+
+-- refused: the grid is as it was
+pub invariant_of-self : goal.invariant_of-self
+invariant_of-self g c = record { sound = λ s e. subst (λ (k : Grid). Fitted g.F.Arithmetic.bits s k) (sym c.in_err-format.ensures.after) (c.args.self.now.sound s e) }
+
+pub invariant_of-self-2 : goal.invariant_of-self-2
+invariant_of-self-2 g c =
+    let made = c.in_ok-shape.ensures in
+    record {
+      sound = start_sound g.F.Arithmetic.bits (means c.args.self.now) c.in_ok-shape.shape c.args.dimensions c.blocks-2.result c.positions.result c.packet.result made.made made.answer
+          c.blocks-2.ensures.value c.positions.ensures.value c.packet.ensures.value (g.S.SlotStore.grid c.format.new.self) c.in_ok-format.ensures.after;
     }

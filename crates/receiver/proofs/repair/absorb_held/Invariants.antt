@@ -1,5 +1,5 @@
 use Rattle.code.specs.Sums.{SumsTo}
-use Rattle.receiver.specs.Meaning.{Fitted}
+use Rattle.receiver.specs.Sound.{Fitted}
 use Rattle.receiver.specs.Blocks.{block_of}
 use Rattle.receiver.proofs.repair.absorb_held.Given as goal
 

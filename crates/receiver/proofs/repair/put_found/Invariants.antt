@@ -1,7 +1,7 @@
 use Rattle.std.proofs.Common.{◌≡◌, ◌*◌, ◌≤◌, length, drop}
 use Rattle.layout.specs.Sizes.{packet_of}
 use Rattle.layout.specs.Made.{lost_at}
-use Rattle.receiver.specs.Meaning.{Fitted}
+use Rattle.receiver.specs.Sound.{Fitted}
 use Rattle.receiver.specs.Blocks.{Missing}
 use Rattle.receiver.specs.Steps.{Put}
 use Rattle.receiver.proofs.repair.put_found.Given as goal

@@ -1,0 +1,22 @@
+-- When a store fits a shape.
+use Rattle.std.specs.Prelude.{◌≡◌, ℕ, ◌^◌, ◌<◌, List, length, Some, Option, slice_index}
+use Rattle.layout.specs.declared.shape.Shape.{Shape}
+use Rattle.layout.specs.Sizes.{packet_of}
+use Rattle.store.specs.Grids.{Grid}
+
+-- the words are a packet of the shape
+pub record IsPacket (s : Shape) (ws : List ℕ) : Type 0 where
+  pub long : length ws ≡ packet_of s
+  pub words : (k : ℕ) → slice_index ws k < 2 ^ 32
+
+-- the shape is one for the arithmetic, the grid has its sizes, and each filled slot holds one of its packets
+pub record Fitted (bits : ℕ) (s : Shape) (g : Grid) : Type 0 where
+  pub width : s.rows ≡ bits
+  pub rows : g.rows ≡ s.blocks
+  pub columns : g.columns ≡ s.positions
+  pub size : g.size ≡ packet_of s
+  pub packets : (i j : ℕ) (ws : List ℕ) → g.slots i j ≡ Some ws → IsPacket s ws
+
+-- if a shape is set, then the store has been formatted for it
+abbrev pub Sound : ℕ → Option Shape → Grid → Type 0
+Sound bits shape g = (s : Shape) → shape ≡ Some s → Fitted bits s g
