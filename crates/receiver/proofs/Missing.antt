@@ -13,7 +13,7 @@ use Rattle.refusal.specs.Numbers.{said}
 use Rattle.store.specs.Grids.{Grid}
 use Rattle.receiver.specs.Calls.{held_in}
 use Rattle.receiver.specs.Repairs.{few_refusal}
-use Rattle.receiver.specs.Steps.{Repairable, Listed}
+use Rattle.receiver.specs.Steps.{Listed}
 use Rattle.receiver.proofs.Counts.{count_none, count_marked, count_unmarked}
 
 -- the list has the positions below n that are not held, in ascending order
@@ -96,12 +96,10 @@ module _ (s : Shape) (g : Grid) (i : ℕ) where
   ]
 
   -- all positions are gone through
-  pub all_listed : (l : LossList) → Collected (held_in g i) s.positions s l → Repairable s (Ok l) × Listed s g i (Ok l)
+  pub all_listed : (l : LossList) → Collected (held_in g i) s.positions s l → Listed s g i (Ok l)
   all_listed l c =
       let n = c.number in
       let w = s.counts in
       let f = c.few in
-      let enough : leb s.sources (count (held_in g i) s.positions) ≡ true = grind arith in (
-        (c.few, c.below),
-        (record { same = c.same; below = c.below; few = c.few }, cond-true (leb s.sources (count (held_in g i) s.positions)) None (Some (7, [])) enough),
-      )
+      let enough : leb s.sources (count (held_in g i) s.positions) ≡ true = grind arith in
+      (record { same = c.same; below = c.below; few = c.few }, cond-true (leb s.sources (count (held_in g i) s.positions)) None (Some (7, [])) enough)

@@ -1,12 +1,12 @@
 -- The steps of a repair, on a grid that fits the shape.
-use Rattle.std.specs.Prelude.{◌≡◌, ℕ, ◌+◌, ◌*◌, ◌<◌, ◌≤◌, true, List, Some, None, Ok, Err, Result, ◌≢◌}
+use Rattle.std.specs.Prelude.{◌≡◌, ℕ, ◌+◌, ◌*◌, ◌<◌, true, List, Some, None, Ok, Err, Result, ◌≢◌}
 use Rattle.std.specs.List.{between}
 use Rattle.refusal.specs.declared.Refusal.{Refusal}
 use Rattle.refusal.specs.Numbers.{said}
 use Rattle.algebra.specs.Code.{among}
 use Rattle.layout.specs.declared.shape.Shape.{Shape}
 use Rattle.layout.specs.declared.losses.LossList.{LossList}
-use Rattle.layout.specs.Sizes.{packet_of, lost, parity_of, LostBelow}
+use Rattle.layout.specs.Sizes.{packet_of, lost}
 use Rattle.store.specs.Grids.{Grid}
 use Rattle.code.specs.Sums.{SumsTo}
 use Rattle.code.specs.Lost.{NoPackets}
@@ -14,11 +14,6 @@ use Rattle.receiver.specs.declared.Whole.{Whole}
 use Rattle.receiver.specs.Sound.{Fitted}
 use Rattle.receiver.specs.Blocks.{block_of, Missing}
 use Rattle.receiver.specs.Repairs.{few_refusal, Completes}
-
--- the list fits the shape, whatever the store said
-abbrev pub Repairable : Shape → Result LossList Refusal → Type 0
-Repairable s (Ok l) = (l.len ≤ parity_of s) × LostBelow l s.positions
-Repairable s (Err e) = Unit {0}
 
 -- the positions that are missing, or refusal 7 if they are too many
 abbrev pub Listed : Shape → Grid → ℕ → Result LossList Refusal → Type 0

@@ -5,7 +5,7 @@ ghost use Rattle.layout.specs.Blocks.{ZeroRun};
 ghost use Rattle.receiver.specs.Sound.{Fitted, Sound};
 ghost use Rattle.receiver.specs.Meaning.{means};
 ghost use Rattle.receiver.specs.Blocks.{Missing};
-ghost use Rattle.receiver.specs.Steps.{Repairable, Listed, HeldSummed, AllPut, Mended};
+ghost use Rattle.receiver.specs.Steps.{Listed, HeldSummed, AllPut, Mended};
 ghost use Rattle.receiver.specs.Repairs.{AfterRepair, Judges};
 
 use crate::{Receiver, Whole};
@@ -21,9 +21,9 @@ use store::slots::Slot;
 
 // The positions of a block that are not held; refused if these are too many.
 fn missing<S: SlotStore>(store: &S, shape: &Shape, block: usize) -> Result<LossList, Refusal>
-    requires { block < shape.now.blocks }
-    ensures few { Repairable shape.now result }
-    ensures listed { Fitted shape.now.rows shape.now (S.SlotStore.grid store.now) → Listed shape.now (S.SlotStore.grid store.now) block result }
+    requires fitted { Fitted shape.now.rows shape.now (S.SlotStore.grid store.now) }
+    requires block { block < shape.now.blocks }
+    ensures { Listed shape.now (S.SlotStore.grid store.now) block result }
 {
     let mut losses = LossList::none();
     for position in 0..shape.positions() {
@@ -46,11 +46,12 @@ fn absorb_held<F: Arithmetic, S: SlotStore>(
     sums: &mut [u32],
     scratch: &mut [u32],
 ) -> Result<(), Refusal>
+    requires fitted { Fitted F.Arithmetic.bits shape.now (S.SlotStore.grid store.now) }
     requires block { block < shape.now.blocks }
     requires sums { Packets shape.now (parity_of shape.now) sums.old }
     requires zero { ZeroRun sums.old }
     requires scratch { length scratch.old ≡ packet_of shape.now }
-    ensures { Fitted F.Arithmetic.bits shape.now (S.SlotStore.grid store.now) → HeldSummed shape.now F.Arithmetic.prod (S.SlotStore.grid store.now) block sums.new result }
+    ensures { HeldSummed shape.now F.Arithmetic.prod (S.SlotStore.grid store.now) block sums.new result }
 {
     for position in 0..shape.positions() {
         let slot = Slot {
@@ -73,10 +74,11 @@ fn put_found<S: SlotStore>(
     losses: &LossList,
     run: &[u32],
 ) -> Result<(), Refusal>
+    requires fitted { Fitted shape.now.rows shape.now (S.SlotStore.grid store.old) }
+    requires missing { Missing shape.now (S.SlotStore.grid store.old) block losses.now }
     requires block { block < shape.now.blocks }
     requires run { Packets shape.now (parity_of shape.now) run.now }
-    requires count { losses.now.len ≤ parity_of shape.now }
-    ensures put { Fitted shape.now.rows shape.now (S.SlotStore.grid store.old) → Missing shape.now (S.SlotStore.grid store.old) block losses.now → AllPut shape.now losses.now block run.now (S.SlotStore.grid store.old) (S.SlotStore.grid store.new) result }
+    ensures put { AllPut shape.now losses.now block run.now (S.SlotStore.grid store.old) (S.SlotStore.grid store.new) result }
     ensures words { (k : ℕ) → slice_index run.now k < 2 ^ 32 }
     ensures kept { S.SlotStore.capacity store.new ≡ S.SlotStore.capacity store.old }
     ensures shut { S.SlotStore.lock store.old ≡ 0 → S.SlotStore.lock store.new ≡ 0 }
@@ -100,13 +102,13 @@ fn mend<F: Arithmetic, S: SlotStore>(
     sums: &mut [u32],
     scratch: &mut [u32],
 ) -> Result<Whole, Refusal>
+    requires fitted { Fitted F.Arithmetic.bits shape.now (S.SlotStore.grid store.old) }
+    requires missing { Missing shape.now (S.SlotStore.grid store.old) block losses.now }
     requires block { block < shape.now.blocks }
     requires sums { Packets shape.now (parity_of shape.now) sums.old }
     requires zero { ZeroRun sums.old }
     requires scratch { length scratch.old ≡ packet_of shape.now }
-    requires count { losses.now.len ≤ parity_of shape.now }
-    requires below { LostBelow losses.now shape.now.positions }
-    ensures mended { Fitted F.Arithmetic.bits shape.now (S.SlotStore.grid store.old) → Missing shape.now (S.SlotStore.grid store.old) block losses.now → Mended F.Arithmetic.bits shape.now F.Arithmetic.prod losses.now (S.SlotStore.grid store.old) block result (S.SlotStore.grid store.new) }
+    ensures mended { Mended F.Arithmetic.bits shape.now F.Arithmetic.prod losses.now (S.SlotStore.grid store.old) block result (S.SlotStore.grid store.new) }
     ensures kept { S.SlotStore.capacity store.new ≡ S.SlotStore.capacity store.old }
     ensures shut { S.SlotStore.lock store.old ≡ 0 → S.SlotStore.lock store.new ≡ 0 }
 {

@@ -24,16 +24,21 @@ returns-in_err-losses g c =
     let row : i < s.blocks = omega (arith, c.blocks-2.ensures.value) in
     let long : length c.args.work.now ≡ (parity_of s + 1) * packet_of s = rw c.parity.ensures at (run_passes s (c.parity.result + 1) c.args.work.now 0 (sym c.in_ok-check_run.ensures)) in
     let p = err_from_is_err_and c.from_residual-in_err-losses.result c.from_residual-in_err-losses.ensures.1 in
-    let few = λ (F : Fitted f.bits s m.grid). c.in_err-losses.ensures.listed (fitted_own f.bits s m.grid F) in
+    let F = c.args.self.now.sound s is in
+    let few = c.in_err-losses.ensures in
     rw (p.1, p.2) (record {
-      after = inl (record { refusal = repair_checks s m i c.args.work.now is row long ∙ few (c.args.self.now.sound s is); same = refl; same_work = refl });
+      after = inl (record { refusal = repair_checks s m i c.args.work.now is row long ∙ few; same = refl; same_work = refl });
       judged = λ t it _ _.
           let k : Some s ≡ Some t = sym is ∙ it in
           let v : s ≡ t = cc in
-          let F = c.args.self.now.sound s is in
-          subst (λ (u : Shape). Judged u f.prod m.grid i (Err c.in_err-losses.field-0.0)) v (few_judged f.bits s f.prod f.inv m.grid i (laws_of s.rows f.bits f.prod f.inv F.width g.met.F.Arithmetic.field) F _ (few F));
+          subst (λ (u : Shape). Judged u f.prod m.grid i (Err c.in_err-losses.field-0.0)) v (few_judged f.bits s f.prod f.inv m.grid i (laws_of s.rows f.bits f.prod f.inv F.width g.met.F.Arithmetic.field) F _ few);
       shut = λ e. e;
     })
+
+pub missing-requires : goal.missing-requires
+missing-requires g c =
+    let s = c.in_ok-shape.shape in
+    record { fitted = fitted_own g.F.Arithmetic.bits s (g.S.SlotStore.grid c.args.self.now.store) (c.args.self.now.sound s c.in_ok-shape.ensures); block = omega (arith, c.blocks-2.ensures.value) }
 
 pub mend-outcome-requires : goal.mend-outcome-requires
 mend-outcome-requires g c =
@@ -43,12 +48,12 @@ mend-outcome-requires g c =
     let mid : c.parity-2.result * c.packet.result ≡ parity_of s * packet_of s = ap₂ ◌*◌ c.parity-2.ensures c.packet.ensures.value in
     let d = add-mul (parity_of s) 1 (packet_of s) in
     record {
+      fitted = c.args.self.now.sound s c.in_ok-shape.ensures;
+      missing = c.in_ok-losses.ensures.0;
       block = row;
       sums = c.split_at_mut-sums.ensures.front_len ∙ mid;
       zero = zero_front _ _ (subst ZeroRun c.split_at_mut-sums.ensures.value c.clear.ensures);
       scratch = let b = c.split_at_mut-sums.ensures.back_len in let k = c.clear.auto.run in omega arith;
-      count = c.in_ok-losses.ensures.few.0;
-      below = c.in_ok-losses.ensures.few.1;
     }
 
 pub returns : goal.returns
@@ -63,18 +68,16 @@ returns g c =
     let work = c.args.work.now in
     let row : i < s.blocks = omega (arith, c.blocks-2.ensures.value) in
     let long : length work ≡ (parity_of s + 1) * packet_of s = rw c.parity.ensures at (run_passes s (c.parity.result + 1) work 0 (sym c.in_ok-check_run.ensures)) in
-    let listed = λ (F : Fitted f.bits s m.grid). c.in_ok-losses.ensures.listed (fitted_own f.bits s m.grid F) in
-    let mended = λ (F : Fitted f.bits s m.grid). c.mend-outcome.ensures.mended F (listed F).0 in
+    let F = c.args.self.now.sound s is in
+    let listed = c.in_ok-losses.ensures in
+    let mended = c.mend-outcome.ensures.mended in
     let r = c.mend-outcome.result in
     record {
-      after =
-          let F = c.args.self.now.sound s is in
-          mended_after f.bits s f.prod l m i work c.clear-2.new.run is F row long (listed F).0 (listed F).1 c.clear-2.ensures r _ refl c.mend-outcome.ensures.kept (mended F) (all_positions s m.grid i l (listed F).0);
+      after = mended_after f.bits s f.prod l m i work c.clear-2.new.run is F row long listed.0 listed.1 c.clear-2.ensures r _ refl c.mend-outcome.ensures.kept mended (all_positions s m.grid i l listed.0);
       judged = λ t it _ _.
           let k : Some s ≡ Some t = sym is ∙ it in
           let v : s ≡ t = cc in
-          let F = c.args.self.now.sound s is in
-          subst (λ (u : Shape). Judged u f.prod m.grid i r) v (mended_judged f.bits s f.prod l m i work c.clear-2.new.run is F row long (listed F).0 (listed F).1 c.clear-2.ensures r _ (mended F));
+          subst (λ (u : Shape). Judged u f.prod m.grid i r) v (mended_judged f.bits s f.prod l m i work c.clear-2.new.run is F row long listed.0 listed.1 c.clear-2.ensures r _ mended);
       shut = c.mend-outcome.ensures.shut;
     }
 
@@ -88,10 +91,9 @@ invariant_of-self g c =
     let i = c.args.block in
     let l = c.in_ok-losses.losses in
     let F = c.args.self.now.sound s is in
-    let listed = c.in_ok-losses.ensures.listed (fitted_own f.bits s m.grid F) in
     record {
       sound = λ t it.
           let k : Some s ≡ Some t = sym is ∙ it in
           let v : s ≡ t = cc in
-          subst (λ (u : Shape). Fitted f.bits u (T.grid c.mend-outcome.new.store)) v (mended_fitted f.bits s f.prod l m.grid i c.mend-outcome.result _ F (c.mend-outcome.ensures.mended F listed.0));
+          subst (λ (u : Shape). Fitted f.bits u (T.grid c.mend-outcome.new.store)) v (mended_fitted f.bits s f.prod l m.grid i c.mend-outcome.result _ F c.mend-outcome.ensures.mended);
     }

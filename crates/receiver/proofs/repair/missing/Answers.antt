@@ -21,8 +21,8 @@ loop-position-preserved g c =
       | else-not-branch w ↦ rw w.losses-is (collected_held f s n l c.loop-position.invariant (is ∙ w.if-not-branch.false))
     ]
 
-pub returns-in_err-push-clause-listed : goal.returns-in_err-push-clause-listed
-returns-in_err-push-clause-listed g c = λ F.
+pub returns-in_err-push : goal.returns-in_err-push
+returns-in_err-push g c =
     let s = c.args.shape.now in
     let G = g.S.SlotStore.grid c.args.store.now in
     let n = c.loop-position.position in
@@ -35,5 +35,4 @@ pub returns : goal.returns
 returns g c =
     let s = c.args.shape.now in
     let all : c.loop-position.position ≡ s.positions = let e = c.positions-position-end.ensures.value in let b = c.positions-position-end.ensures.bound in omega arith in
-    let done = all_listed s (g.S.SlotStore.grid c.args.store.now) c.args.block c.loop-position.losses (rw all at c.loop-position.invariant) in
-    record { few = done.0; listed = λ F. done.1 }
+    all_listed s (g.S.SlotStore.grid c.args.store.now) c.args.block c.loop-position.losses (rw all at c.loop-position.invariant)

@@ -14,7 +14,7 @@ loop-at-init g c = record {
   size = search rules;
   packets = search rules;
   within = omega arith;
-  put = λ F M. put_none _ _ _ _ _;
+  put = put_none _ _ _ _ _;
   kept = refl;
   shut = λ e. e;
 }
@@ -37,7 +37,7 @@ returns-in_err-put g c =
     let h = c.in_err-put.ensures in
     let G = T.grid c.loop-at.store in
     record {
-      put = λ F M. passed _ _ (put_passes s l c.args.block run (T.grid c.args.store.now) s.rows F c.requires.block M n c.in-Some.packet.now G listed turn.long (v.put F M))
+      put = passed _ _ (put_passes s l c.args.block run (T.grid c.args.store.now) s.rows c.requires.fitted c.requires.block c.requires.missing n c.in-Some.packet.now G listed turn.long v.put)
           (h.answer ∙ ap (λ q. put_refusal G c.args.block q c.in-Some.packet.now) at);
       words = λ k. Fits-lt-pow (c.type_inv.run k);
       kept = h.kept ∙ v.kept;
@@ -65,7 +65,7 @@ loop-at-preserved g c =
       size = step.0 ∙ v.size;
       packets = turn.left;
       within = omega arith;
-      put = λ F M. put_more s l c.args.block run (T.grid c.args.store.now) n c.in-Some.packet.now (T.grid c.loop-at.store) (T.grid c.put.new.self) listed turn.is (v.put F M)
+      put = put_more s l c.args.block run (T.grid c.args.store.now) n c.in-Some.packet.now (T.grid c.loop-at.store) (T.grid c.put.new.self) listed turn.is v.put
           (subst (λ q. Filled (T.grid c.loop-at.store) c.args.block q c.in-Some.packet.now (T.grid c.put.new.self)) at h.after);
       kept = h.kept ∙ v.kept;
       shut = λ _. h.shut;
@@ -85,9 +85,9 @@ returns g c =
           let w = v.within in
           omega arith
       | inr b ↦
-          let e = chunks_done (packet_of s) c.args.run.now (parity_of s) n some c.requires.run (let w = v.within in let k = c.requires.count in omega arith) (ap length (sym v.packets) ∙ b.1.1.0) in
+          let e = chunks_done (packet_of s) c.args.run.now (parity_of s) n some c.requires.run (let w = v.within in let k = c.requires.missing.few in omega arith) (ap length (sym v.packets) ∙ b.1.1.0) in
           let w = v.within in
-          let k = c.requires.count in
+          let k = c.requires.missing.few in
           omega arith
     ] in
     record { put = rw all at v.put; words = λ k. Fits-lt-pow (c.type_inv.run k); kept = v.kept; shut = v.shut }

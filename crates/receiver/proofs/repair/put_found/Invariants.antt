@@ -1,8 +1,6 @@
 use Rattle.std.proofs.Common.{◌≡◌, ◌*◌, ◌≤◌, length, drop}
 use Rattle.layout.specs.Sizes.{packet_of}
 use Rattle.layout.specs.Made.{lost_at}
-use Rattle.receiver.specs.Sound.{Fitted}
-use Rattle.receiver.specs.Blocks.{Missing}
 use Rattle.receiver.specs.Steps.{Put}
 use Rattle.receiver.proofs.repair.put_found.Given as goal
 
@@ -15,8 +13,7 @@ invariant-loop-at g l =
       size : l.at-iterator.b.size ≡ packet_of l.shape;
       packets : l.at-iterator.b.rest.now ≡ drop (n * packet_of l.shape) l.run;
       within : n ≤ l.losses.len;
-      put : Fitted l.shape.rows l.shape (T.grid l.initial.store) → Missing l.shape (T.grid l.initial.store) l.block l.losses
-          → Put l.shape l.losses l.block n l.run (T.grid l.initial.store) (T.grid l.store);
+      put : Put l.shape l.losses l.block n l.run (T.grid l.initial.store) (T.grid l.store);
       kept : T.capacity l.store ≡ T.capacity l.initial.store;
       shut : T.lock l.initial.store ≡ 0 → T.lock l.store ≡ 0;
     }
