@@ -2,7 +2,6 @@
 ghost use Rattle.std.specs.Prelude.{◌≡◌};
 ghost use Rattle.refusal.specs.Numbers.{refused_with};
 ghost use Rattle.store.specs.Grids.{after_get};
-ghost use Rattle.receiver.specs.Sound.{Sound};
 ghost use Rattle.receiver.specs.Meaning.{means};
 ghost use Rattle.receiver.specs.Calls.{fetch_refusal, count_refusal, Counted};
 

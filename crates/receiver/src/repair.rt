@@ -2,7 +2,7 @@
 ghost use Rattle.std.specs.Prelude.{◌≡◌, ℕ, ◌^◌, ◌<◌, ◌≤◌, length, slice_index};
 ghost use Rattle.layout.specs.Sizes.{parity_of, packet_of, Packets, LostBelow};
 ghost use Rattle.layout.specs.Blocks.{ZeroRun};
-ghost use Rattle.receiver.specs.Sound.{Fitted, Sound};
+ghost use Rattle.receiver.specs.Sound.{Fitted};
 ghost use Rattle.receiver.specs.Meaning.{means};
 ghost use Rattle.receiver.specs.Blocks.{Missing};
 ghost use Rattle.receiver.specs.Steps.{Listed, HeldSummed, AllPut, Mended};

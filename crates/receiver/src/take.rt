@@ -2,7 +2,6 @@
 ghost use Rattle.std.specs.Prelude.{◌≡◌, ◌≤◌, length, Some};
 ghost use Rattle.refusal.specs.Numbers.{refused_with};
 ghost use Rattle.frame.specs.Frames.{parse};
-ghost use Rattle.receiver.specs.Sound.{Sound};
 ghost use Rattle.receiver.specs.Meaning.{means};
 ghost use Rattle.receiver.specs.Calls.{start_refusal, TookShape, Compared, packet_refusal, TookPacket, take_refusal, Took};
 
