@@ -1,6 +1,7 @@
 // What a board says to a call.
 use receiver::{Taken, Whole};
 use refusal::Refusal;
+use std::alloc::AllocError;
 use std::fmt;
 
 #[derive(Drop)]
@@ -9,7 +10,6 @@ pub enum Answer {
     Whole(Whole),
     Packet(Vec<u32>),
     Held(usize),
-    Refused(Refusal),
 }
 
 impl fmt::Display for Answer {
@@ -27,16 +27,40 @@ impl fmt::Display for Answer {
                 Ok(())
             }
             Answer::Held(held) => write!(f, "held {held}"),
-            Answer::Refused(refusal) => {
-                let number = refusal.number();
-                match refusal {
-                    Refusal::WrongRun { place } => write!(f, "refused {number} {place}"),
-                    Refusal::Contradictory { sum, word } => {
-                        write!(f, "refused {number} {sum} {word}")
-                    }
-                    _ => write!(f, "refused {number}"),
-                }
-            }
         }
+    }
+}
+
+// A refusal, by its number and values.
+#[derive(Clone, Copy)]
+pub struct Refused(pub Refusal);
+
+impl fmt::Display for Refused {
+    fn fmt<W: fmt::Write>(&self, f: &mut fmt::Formatter<W>) -> fmt::Result {
+        let number = self.0.number();
+        match self.0 {
+            Refusal::WrongRun { place } => write!(f, "refused {number} {place}"),
+            Refusal::Contradictory { sum, word } => write!(f, "refused {number} {sum} {word}"),
+            _ => write!(f, "refused {number}"),
+        }
+    }
+}
+
+// Why a call has no answer.
+#[derive(Clone, Copy)]
+pub enum Failure {
+    Refused(Refused),
+    NoMemory(AllocError),
+}
+
+impl From<Refusal> for Failure {
+    fn from(refusal: Refusal) -> Failure {
+        Failure::Refused(Refused(refusal))
+    }
+}
+
+impl From<AllocError> for Failure {
+    fn from(error: AllocError) -> Failure {
+        Failure::NoMemory(error)
     }
 }

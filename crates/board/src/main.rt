@@ -4,7 +4,7 @@
 mod answer;
 mod call;
 
-use answer::Answer;
+use answer::{Answer, Failure};
 use call::{Call, Error, Medium, Place, Setting};
 use field::Arithmetic;
 use field::nibble::NibbleTables;
@@ -12,7 +12,7 @@ use field::octet::OctetTables;
 use field::stepped::SteppedOctet;
 use field::tabled::Tabled;
 use receiver::Receiver;
-use std::alloc::{AllocError, Global};
+use std::alloc::Global;
 use std::io::{BufRead, BufReader, Lines, Stdin};
 use std::process::ExitCode;
 use store::SlotStore;
@@ -38,18 +38,12 @@ fn respond<F: Arithmetic, S: SlotStore>(
     heap: Global,
     receiver: &mut Receiver<F, S>,
     call: Call,
-) -> Result<Answer, AllocError> {
+) -> Result<Answer, Failure> {
     match call {
-        Call::Take { frame } => Ok(match receiver.take(&frame) {
-            Ok(taken) => Answer::Taken(taken),
-            Err(refusal) => Answer::Refused(refusal),
-        }),
+        Call::Take { frame } => Ok(Answer::Taken(receiver.take(&frame)?)),
         Call::Repair { block, length } => {
             let mut work = vec![in heap; 0; length]?;
-            Ok(match receiver.repair(block, &mut work) {
-                Ok(whole) => Answer::Whole(whole),
-                Err(refusal) => Answer::Refused(refusal),
-            })
+            Ok(Answer::Whole(receiver.repair(block, &mut work)?))
         }
         Call::Fetch {
             block,
@@ -57,15 +51,10 @@ fn respond<F: Arithmetic, S: SlotStore>(
             length,
         } => {
             let mut run = vec![in heap; 0; length]?;
-            Ok(match receiver.fetch(block, position, &mut run) {
-                Ok(()) => Answer::Packet(run),
-                Err(refusal) => Answer::Refused(refusal),
-            })
+            receiver.fetch(block, position, &mut run)?;
+            Ok(Answer::Packet(run))
         }
-        Call::Count { block } => Ok(match receiver.count(block) {
-            Ok(held) => Answer::Held(held),
-            Err(refusal) => Answer::Refused(refusal),
-        }),
+        Call::Count { block } => Ok(Answer::Held(receiver.count(block)?)),
     }
 }
 
@@ -83,10 +72,11 @@ fn serve<F: Arithmetic + Drop, S: SlotStore + Drop>(
             continue;
         };
         match Call::parse(rt.alloc(), text) {
-            Ok(call) => {
-                let answer = respond(rt.alloc(), &mut receiver, call)?;
-                println!(rt; "{answer}")?;
-            }
+            Ok(call) => match respond(rt.alloc(), &mut receiver, call) {
+                Ok(answer) => println!(rt; "{answer}")?,
+                Err(Failure::Refused(refused)) => println!(rt; "{refused}")?,
+                Err(Failure::NoMemory(error)) => return Err(error.into()),
+            },
             Err(error) => println!(rt; "error: {error}")?,
         }
     }
