@@ -8,6 +8,7 @@ pub mod power;
 pub mod same;
 pub mod stepped;
 pub mod tabled;
+pub mod tables;
 #[cfg(test)]
 mod tests;
 

@@ -1,7 +1,8 @@
 // The field of 16 elements with α^4 = α + 1, by tables.
 ghost use Rattle.field.specs.Fields.{nibble};
 
-use crate::tabled::{Logarithms, Tabled};
+use crate::tabled::Tabled;
+use crate::tables::ByteTables;
 
 const WIDTH: u32 = 4;
 
@@ -17,7 +18,7 @@ pub struct NibbleTables;
 pub type Nibble = Tabled<NibbleTables>;
 
 #[tactic(auto, unfolding(galois::specs::Field::double, galois::specs::Tables::powers_from, galois::specs::Tables::powers, galois::specs::Tables::entered, galois::specs::Tables::logarithms))]
-impl Logarithms for NibbleTables {
+impl ByteTables for NibbleTables {
     ghost bits = { 4 };
 
     ghost poly = { 0x13 };

@@ -1,7 +1,8 @@
 // The field of 256 elements with α^8 = α^4 + α^3 + α^2 + 1, by tables.
 ghost use Rattle.field.specs.Fields.{octet};
 
-use crate::tabled::{Logarithms, Tabled};
+use crate::tabled::Tabled;
+use crate::tables::ByteTables;
 
 const WIDTH: u32 = 8;
 
@@ -49,7 +50,7 @@ pub struct OctetTables;
 pub type TabledOctet = Tabled<OctetTables>;
 
 #[tactic(auto, unfolding(galois::specs::Field::double, galois::specs::Tables::powers_from, galois::specs::Tables::powers, galois::specs::Tables::entered, galois::specs::Tables::logarithms))]
-impl Logarithms for OctetTables {
+impl ByteTables for OctetTables {
     ghost bits = { 8 };
 
     ghost poly = { 0x11D };

@@ -1,7 +1,6 @@
 // A field by tables of powers and logarithms.
 ghost use Rattle.std.specs.Prelude.{◌≡◌, ℕ, ◌-◌, ◌%◌, ◌^◌, ◌<◌};
 ghost use Rattle.galois.specs.Field.{Primitive, steps, product, inverse};
-ghost use Rattle.galois.specs.Tables.{powers, logarithms};
 ghost use Rattle.galois.proofs.Laws.{laws};
 
 use crate::Arithmetic;
@@ -15,31 +14,15 @@ pub trait Logarithms {
     fn width() -> u32
         ensures { result ≡ bits };
 
-    // α^i at place i
-    fn powers() -> &'static [u8]
-        ensures { result.now ≡ powers bits poly };
-
-    // i at place α^i, and 0 at place 0
-    fn logarithms() -> &'static [u8]
-        ensures { result.now ≡ logarithms bits poly };
-
     // α^exponent
-    final fn power(exponent: u32) -> u32
-        ensures { result ≡ steps bits poly exponent 1 }
-    {
-        let powers = Self::powers();
-        u32::from(powers[exponent as usize % powers.len()])
-    }
+    fn power(exponent: u32) -> u32
+        ensures { result ≡ steps bits poly exponent 1 };
 
     // The exponent of α at the low bits of `a`, and 0 where they are 0.
-    final fn logarithm(a: u32) -> u32
+    fn logarithm(a: u32) -> u32
         ensures below { result < 2 ^ bits - 1 }
         ensures exponent { 0 < a % 2 ^ bits → steps bits poly result 1 ≡ a % 2 ^ bits }
-        ensures zero { a % 2 ^ bits ≡ 0 → result ≡ 0 }
-    {
-        let logarithms = Self::logarithms();
-        u32::from(logarithms[a as usize % logarithms.len()])
-    }
+        ensures zero { a % 2 ^ bits ≡ 0 → result ≡ 0 };
 
     ghost generates: { Primitive bits poly };
 }
