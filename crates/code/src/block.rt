@@ -13,7 +13,7 @@ use crate::sums::absorb;
 use field::Arithmetic;
 use layout::losses::LossList;
 use layout::runs::clear;
-use layout::shape::Shape;
+use layout::shape::{LONGEST, Shape};
 use refusal::Refusal;
 
 // Adds to the sums the packets of `run`, at the positions from `start` on, that are not lost.
@@ -84,9 +84,6 @@ fn write_found(shape: &Shape, losses: &LossList, sums: &[u32], block: &mut [u32]
     }
 }
 
-// The longest packet: 10 rows of 16 words.
-const LONGEST: usize = 160;
-
 // Finds the parity packets as packets that are lost.
 fn fill_parity<F: Arithmetic>(
     shape: &Shape,
@@ -100,6 +97,7 @@ fn fill_parity<F: Arithmetic>(
 {
     let p = shape.packet();
     let losses = LossList::parity(shape);
+    // Room for a packet of any shape: a board has no heap.
     let mut scratch = [0; LONGEST];
     clear(parity);
     absorb_held::<F>(shape, parity, source, shape.parity(), &losses)?;

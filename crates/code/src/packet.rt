@@ -9,7 +9,7 @@ use field::Arithmetic;
 use layout::shape::Shape;
 use std::array;
 
-// The matrix of the product by `a`: column j is a · α^j.
+// The matrix of the product by `a`: column j is a · α^j. Ten columns, for the widest field: a board has no heap.
 fn columns<F: Arithmetic>(a: u32) -> [u32; 10]
     ensures { (j : ℕ) → j < F.Arithmetic.bits → slice_index result j ≡ F.Arithmetic.prod (a % 2 ^ F.Arithmetic.bits) (2 ^ j) }
 {

@@ -8,6 +8,7 @@ pub mod make;
 // At most 32 positions, strictly ascending: the first `len` of `at`.
 #[derive(Clone, Copy)]
 pub struct LossList {
+    // A length beside an array: a board has no heap.
     at: [usize; 32],
     len: usize,
     ghost few: { len ≤ 32 },

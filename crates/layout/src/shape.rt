@@ -5,6 +5,9 @@ pub mod checks;
 pub mod make;
 pub mod sizes;
 
+// The words of the longest packet: 10 rows of 16.
+pub const LONGEST: usize = 160;
+
 // Rows in a packet, positions in a block, source positions among them, blocks, and words in a row: any numbers.
 #[derive(Clone, Copy, PartialEq, Eq, Debug)]
 pub struct Dimensions {

@@ -8,13 +8,10 @@ ghost use Rattle.receiver.specs.Calls.{start_refusal, TookShape, Compared, packe
 use crate::{Receiver, Taken};
 use field::Arithmetic;
 use frame::Frame;
-use layout::shape::{Dimensions, Shape};
+use layout::shape::{Dimensions, LONGEST, Shape};
 use refusal::Refusal;
 use store::SlotStore;
 use store::slots::{Format, Slot};
-
-// The longest packet: 10 rows of 16 words.
-const LONGEST: usize = 160;
 
 impl<F: Arithmetic, S: SlotStore> Receiver<F, S> {
     // Sets a shape of these dimensions, and formats the store for it.
@@ -38,6 +35,7 @@ impl<F: Arithmetic, S: SlotStore> Receiver<F, S> {
         requires { length words.now ≤ 160 }
         ensures { Compared (S.SlotStore.grid self.now.store) slot.row slot.column words.now result }
     {
+        // Room for a packet of any shape: a board has no heap.
         let mut packet = [0; LONGEST];
         let held = &mut packet[0..words.len()];
         self.store.get(slot, held)?;

@@ -12,6 +12,7 @@ impl Shape {
         ensures answer { refused_with result ≡ shape_refusal F.Arithmetic.bits dimensions }
         ensures made { ShapeMade dimensions result }
     {
+        // Field by field, and no TryFrom: clauses read the fields of a shape by name, and the arithmetic is a type parameter.
         let Dimensions {
             rows,
             positions,
