@@ -8,23 +8,6 @@ use Rattle.layout.specs.Blocks.{packet_in}
 use Rattle.code.specs.Packets.{selected}
 use Rattle.layout.proofs.Parts.{part_written, part_kept}
 
--- the first n words of t are those of e with those of s added
-pub record Added (n : ℕ) (e s t : List ℕ) : Type 0 where
-  pub at : (c : ℕ) → c < n → get_or t c 0 ≡ bit_xor (get_or e c 0) (get_or s c 0)
-  pub off : (c : ℕ) → n ≤ c → get_or t c 0 ≡ get_or e c 0
-
-pub added_none : (e s : List ℕ) → Added 0 e s e
-added_none e s = record { at = λ c h. absurd (omega arith); off = λ c h. refl }
-
-pub added_more : (n : ℕ) (e s t : List ℕ) → n < length t → Added n e s t → Added (n + 1) e s (set t n (bit_xor (get_or t n 0) (get_or s n 0)))
-added_more n e s t h d = record {
-  at = λ c l. elim (ℕ_discrete c n) [
-    | yes q ↦ rw q (get_or-set_same t n _ 0 h ∙ ap (λ u. bit_xor u (get_or s n 0)) (d.off n (omega arith)))
-    | no q ↦ get_or-set_other t n c _ 0 q ∙ d.at c (omega arith)
-  ];
-  off = λ c l. get_or-set_other t n c _ 0 (λ q. omega arith) ∙ d.off c (omega arith);
-}
-
 -- one row more is selected, or not
 module _ (columns : List ℕ) (i : ℕ) (p : Packet) (c n : ℕ) where
   pub selected_none : selected 0 columns i p c ≡ 0

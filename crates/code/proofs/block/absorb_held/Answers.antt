@@ -11,15 +11,6 @@ use Rattle.code.proofs.Passes.{absorb_passes}
 use Rattle.code.proofs.Held.{reads_less}
 use Rattle.code.proofs.block.absorb_held.Goals as goal
 
-pub loop-i-init : goal.loop-i-init
-loop-i-init g c = record {
-  count = search rules;
-  within = omega arith;
-  size = search rules;
-  packets = search rules;
-  summed = λ b r e. subst (λ n. SumsTo c.args.shape.now g.F.Arithmetic.prod b n c.args.sums.now) (sym (add-zero c.args.start)) e;
-}
-
 pub loop-i-preserved : goal.loop-i-preserved
 loop-i-preserved g c =
     let prod = g.F.Arithmetic.prod in
@@ -73,21 +64,6 @@ loop-i-preserved-in-Continue-1 g c =
           let part : SamePacket (code_of s prod) (packet_in s.words c.in-Some.packet.now) (b q) = λ i k h m. ap (λ z. packet_in s.words z i k) turn.is ∙ entry_read s n (packet_of s) run refl i k h m ∙ held i k h m in
           subst (λ k. SumsTo s prod b k c.absorb.new.sums) next (sums_held s prod b q (packet_in s.words c.in-Some.packet.now) c.loop-i.sums c.absorb.new.sums part gained before);
     }
-
-pub overflow_add-start : goal.overflow_add-start
-overflow_add-start g c =
-    let s = c.args.shape.now in
-    let v = c.loop-i.invariant in
-    let (step, number, _, _) = c.in-Some.ensures.steps in
-    let some : 1 ≤ packet_of s = let b = c.packet.ensures in omega arith in
-    let turn = chunk_turn (packet_of s) c.args.run.now (packets_in s c.args.run.now) (length c.loop-i.yielded) _ _ _ _ some c.requires.run v.size v.packets step.1 in
-    let lt = turn.lt in
-    let k = v.count in
-    let end = c.requires.end in
-    let short = s.length in
-    let top : 2 ^ s.rows ≤ 2 ^ 10 = pow_mono s.field.1 in
-    let fits : c.args.start + c.in-Some.i < 2 ^ 64 = omega arith in
-    search rules
 
 pub returns-in_err-absorb : goal.returns-in_err-absorb
 returns-in_err-absorb g c =

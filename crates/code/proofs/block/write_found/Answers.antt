@@ -7,15 +7,6 @@ use Rattle.code.proofs.Chunks.{item_turn, chunk_turn, chunks_done}
 use Rattle.code.proofs.Writes.{written_none, written_more}
 use Rattle.code.proofs.block.write_found.Goals as goal
 
-pub loop-at-init : goal.loop-at-init
-loop-at-init c = record {
-  places = search rules;
-  size = search rules;
-  packets = search rules;
-  within = omega arith;
-  written = written_none c.args.shape.now c.args.losses.now c.args.sums.now c.args.block.now;
-}
-
 pub write_packet-requires : goal.write_packet-requires
 write_packet-requires c =
     let s = c.args.shape.now in

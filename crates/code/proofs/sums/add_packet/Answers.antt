@@ -11,11 +11,6 @@ use Rattle.layout.proofs.Entries.{entry_read}
 use Rattle.code.proofs.Absorbs.{absorbed_none, absorbed_more}
 use Rattle.code.proofs.sums.add_packet.Goals as goal
 
-pub slice_bounds-add_times-end : goal.slice_bounds-add_times-end
-slice_bounds-add_times-end g c =
-    let h = part_ends c.loop-sum.sum _ c.packet-p.result c.parity-sum-end.ensures c.packet-p.ensures.value c.requires.sums c.loop-sum-test.true in
-    search rules
-
 pub loop-sum-init : goal.loop-sum-init
 loop-sum-init g c =
     (c.raise-a.ensures ∙ ap (λ y. power g.F.Arithmetic.prod y c.args.first) (mod-eq_of_lt c.requires.element), absorbed_none _ _ _ _ _ _)
@@ -42,9 +37,3 @@ loop-sum-preserved g c =
           ∙ ap₂ (λ u b. bit_xor u (scaled (code_of s f.prod) b (packet_in s.words c.args.packet.now) i k)) (entry_read s n v t size i k h l) (mod-eq_of_lt lt ∙ is))
           c.loop-sum.invariant.1,
     )
-
-pub returns : goal.returns
-returns g c =
-    let s = c.args.shape.now in
-    let all : c.loop-sum.sum ≡ parity_of s = let e = c.parity-sum-end.ensures in let h = c.requires.first in omega arith in
-    rw all at c.loop-sum.invariant.1

@@ -14,33 +14,6 @@ use Rattle.code.proofs.Stages.{laws_of}
 use Rattle.code.proofs.Backs.{Cleared, factor, gap_is, cleared_none, cleared_more, cleared_all}
 use Rattle.code.proofs.solver.Solver.backward.Goals as goal
 
-pub slice_bounds-copy_from_slice-end : goal.slice_bounds-copy_from_slice-end
-slice_bounds-copy_from_slice-end g c =
-    let lt : c.args.n < parity_of c.args.self.now.shape.now = let h = c.requires.n in let k = c.args.self.now.few in omega arith in
-    let h = part_ends c.args.n _ c.packet-p.result refl c.packet-p.ensures.value c.requires.sums lt in
-    search rules
-
-pub slice_bounds-add_times-end : goal.slice_bounds-add_times-end
-slice_bounds-add_times-end g c =
-    let lt : c.loop-j.j < parity_of c.args.self.now.shape.now = let h = c.requires.n in let k = c.args.self.now.few in let t = c.loop-j-test.true in omega arith in
-    let h = part_ends c.loop-j.j _ c.packet-p.result refl c.packet-p.ensures.value c.requires.sums lt in
-    search rules
-
-pub slice_bounds-copy_from_slice-end-2 : goal.slice_bounds-copy_from_slice-end-2
-slice_bounds-copy_from_slice-end-2 g c =
-    let lt : c.args.n < parity_of c.args.self.now.shape.now = let h = c.requires.n in let k = c.args.self.now.few in omega arith in
-    let h = part_ends c.args.n _ c.packet-p.result refl c.packet-p.ensures.value c.requires.sums lt in
-    search rules
-
-pub slice_bounds-add_words-end : goal.slice_bounds-add_words-end
-slice_bounds-add_words-end g c =
-    let lt : c.args.n < parity_of c.args.self.now.shape.now = let h = c.requires.n in let k = c.args.self.now.few in omega arith in
-    let h = part_ends c.args.n _ c.packet-p.result refl c.packet-p.ensures.value c.requires.sums lt in
-    search rules
-
-pub loop-j-init : goal.loop-j-init
-loop-j-init g c = λ e d. d
-
 pub loop-j-preserved : goal.loop-j-preserved
 unfolding theta
 loop-j-preserved g c = λ e d.

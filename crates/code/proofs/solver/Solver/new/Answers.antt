@@ -8,14 +8,6 @@ use Rattle.code.proofs.Stages.{laws_of}
 use Rattle.code.proofs.Rebuilds.{lost_apart}
 use Rattle.code.proofs.solver.Solver.new.Goals as goal
 
-pub overflow_cast-p : goal.overflow_cast-p
-overflow_cast-p g c =
-    let s = c.args.shape.now in
-    let top : 2 ^ s.rows ≤ 2 ^ 10 = pow_mono s.field.1 in
-    let h = s.length in
-    let lt : c.loop-s.s < c.args.losses.now.len = let e = c.positions-p-items.ensures.len in let h = c.loop-s-test.true in omega arith in
-    omega (arith, c.positions-p-items.ensures.places c.loop-s.s lt, c.requires.below c.loop-s.s lt)
-
 pub loop-s-init : goal.loop-s-init
 loop-s-init g c = (refl, λ k h. absurd (omega arith), λ k h. get_or_zeros 32 k)
 
@@ -54,8 +46,3 @@ invariant_of-result g c =
       ];
       apart = rw len (lost_apart s f.prod f.inv laws l c.requires.below c.loop-s.nodes (λ k h. c.loop-s.invariant.1 k (omega arith)));
     }
-
-pub returns : goal.returns
-returns g c =
-    let all : c.loop-s.s ≡ c.args.losses.now.len = let e = c.positions-p-items.ensures.len in omega arith in
-    record { shape = refl; count = c.positions.ensures.len; at = λ k h. c.loop-s.invariant.1 k (omega arith) }

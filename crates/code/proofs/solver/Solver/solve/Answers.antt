@@ -6,9 +6,6 @@ use Rattle.code.proofs.Stages.{laws_of}
 use Rattle.code.proofs.Backs.{found_starts, found_ends}
 use Rattle.code.proofs.solver.Solver.solve.Goals as goal
 
-pub loop-n-init : goal.loop-n-init
-loop-n-init g c = (λ I. Iff.rfl, λ μ h k i b p q. refl)
-
 pub loop-n-preserved : goal.loop-n-preserved
 loop-n-preserved g c = (
   λ I. Iff.trans (c.loop-n.invariant.0 I) (c.backward.ensures.keeps I),
