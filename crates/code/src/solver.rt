@@ -70,6 +70,7 @@ impl<'a, F: Arithmetic> Solver<'a, F> {
     }
 
     // Adds `a` times sum `from` to sum `to`, by way of `scratch`.
+    #[tactic(auto, using(layout::proofs::Places::part_ends))]
     fn add_entry(&self, sums: &mut [u32], scratch: &mut [u32], a: u32, to: usize, from: usize)
         requires sums { Packets self.now.shape.now (parity_of self.now.shape.now) sums.old }
         requires scratch { length scratch.old ≡ packet_of self.now.shape.now }
@@ -98,6 +99,7 @@ impl<'a, F: Arithmetic> Solver<'a, F> {
     }
 
     // The product of x_n + x_s over the s from j to n - 1.
+    #[tactic(auto, unfolding(crate::specs::Solving::gap_of))]
     fn gap(&self, j: usize, n: usize) -> u32
         requires order { j ≤ n }
         requires within { n < self.now.count }
@@ -146,6 +148,7 @@ impl<'a, F: Arithmetic> Solver<'a, F> {
     }
 
     // Adds the packets found, in the first sums, to the sums behind them.
+    #[tactic(auto, using(layout::proofs::Places::part_ends))]
     pub(crate) fn add_found(&self, sums: &mut [u32], scratch: &mut [u32])
         requires sums { Packets self.now.shape.now (parity_of self.now.shape.now) sums.old }
         requires scratch { length scratch.old ≡ packet_of self.now.shape.now }

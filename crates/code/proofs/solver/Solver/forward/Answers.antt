@@ -48,14 +48,11 @@ loop-j-preserved g c =
       λ μ h k a b p q. c.loop-i.invariant.1 μ h k a b p q ∙ c.loop-j.invariant.1 μ h k a b p q,
     )
 
-pub returns : goal.returns
-returns g c = record {
-  keeps = elim (dec_lt 0 c.args.self.now.count) [
-    | yes some ↦
-        let end = c.loop-j.auto.j-end some in
-        let e : c.args.self.now.count - 1 ≡ c.loop-j.j - 1 = omega arith in
-        rw e c.loop-j.invariant.0
-    | no none ↦ λ I. (λ _ m l. absurd (omega arith), λ _ m l. absurd (omega arith))
-  ];
-  off = c.loop-j.invariant.1;
-}
+pub returns-clause-keeps : goal.returns-clause-keeps
+returns-clause-keeps g c = elim (dec_lt 0 c.args.self.now.count) [
+  | yes some ↦
+      let end = c.loop-j.auto.j-end some in
+      let e : c.args.self.now.count - 1 ≡ c.loop-j.j - 1 = omega arith in
+      rw e c.loop-j.invariant.0
+  | no none ↦ λ I. (λ _ m l. absurd (omega arith), λ _ m l. absurd (omega arith))
+]

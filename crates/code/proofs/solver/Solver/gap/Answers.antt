@@ -9,10 +9,6 @@ use Rattle.code.proofs.solver.Solver.gap.Goals as goal
 mid_length : (nodes : List ℕ) (j n : ℕ) → length nodes ≡ 32 → n < 32 → length (mid_of j (n - j) nodes) ≡ n - j
 mid_length nodes j n long lt = length-take-le (n - j) (drop j nodes) (let e = length-drop j nodes in omega arith)
 
-pub loop-node-init : goal.loop-node-init
-unfolding gap_of
-loop-node-init g c = refl
-
 pub loop-node-preserved : goal.loop-node-preserved
 unfolding gap_of
 loop-node-preserved g c =
@@ -31,13 +27,8 @@ loop-node-preserved g c =
     ∙ ap₂ f.prod (ap (λ z. bit_xor y z % 2 ^ f.bits) here ∙ mod-eq_of_lt (xor_lt f.bits y (x (j + k)) (ox c.args.n) (ox (j + k)))) (mod-eq_of_lt lt ∙ c.loop-node.invariant)
     ∙ sym (ap (λ z. gap_of f.prod x j z y) (add-one k))
 
-pub returns : goal.returns
-returns g c =
-    let f = g.F.Arithmetic in
+pub returns-clause-element : goal.returns-clause-element
+returns-clause-element g c =
     let x = node_at c.args.self.now.nodes in
     let ox = c.args.self.now.elements in
-    let all : c.loop-node.node-index ≡ c.args.n - c.args.j = let whole = mid_length c.args.self.now.nodes c.args.j c.args.n (omega arith) (let w = c.requires.within in let m = c.args.self.now.few in let k = c.args.self.now.shape.now.counts.2 in omega arith) in omega arith in
-    record {
-      value = rw all at c.loop-node.invariant;
-      element = rw c.loop-node.invariant (gap_lt g.met.F.Arithmetic.field x ox c.args.j c.loop-node.node-index (x c.args.n) (ox c.args.n));
-    }
+    rw c.loop-node.invariant (gap_lt g.met.F.Arithmetic.field x ox c.args.j c.loop-node.node-index (x c.args.n) (ox c.args.n))
