@@ -1,13 +1,9 @@
 // The packets at lost positions, from the sums of the others.
 ghost use Rattle.std.specs.Prelude.{◌≡◌, ℕ, ◌+◌, ◌-◌, ◌*◌, ◌%◌, ◌^◌, ◌<◌, ◌≤◌, length};
 ghost use Rattle.galois.specs.Field.{power};
-ghost use Rattle.algebra.specs.Loops.{Apart};
-ghost use Rattle.algebra.specs.Packets.{Nz};
-ghost use Rattle.algebra.specs.Grids.{grid_ops};
 ghost use Rattle.layout.specs.Sizes.{parity_of, packet_of, Packets, lost, LostBelow};
-ghost use Rattle.layout.specs.Blocks.{code_of};
 ghost use Rattle.code.specs.Found.{FoundAdded};
-ghost use Rattle.code.specs.Solving.{node_at, gap_of, Copied, Stepped, Untouched, Keeps, sums_of, stage_of, found_of};
+ghost use Rattle.code.specs.Solving.{node_at, Solvable, gap_of, Copied, Stepped, Untouched, Keeps, sums_of, stage_of, found_of};
 
 use crate::packet::{add_times, add_words};
 use crate::sums::add_packet;
@@ -25,9 +21,7 @@ pub(crate) struct Solver<'a, F: Arithmetic> {
     count: usize,
     field: PhantomData<F>,
     ghost width: { shape.now.rows ≡ F.Arithmetic.bits },
-    ghost few: { count ≤ parity_of shape.now },
-    ghost elements: { (s : ℕ) → node_at nodes s < 2 ^ F.Arithmetic.bits },
-    ghost apart: { Apart (grid_ops (code_of shape.now F.Arithmetic.prod) F.Arithmetic.inv) (Nz shape.now.rows) (node_at nodes) count },
+    ghost solvable: { Solvable shape.now F.Arithmetic.prod F.Arithmetic.inv nodes count },
 }
 
 // Copies sum 0 to sum `n`.
@@ -70,7 +64,6 @@ impl<'a, F: Arithmetic> Solver<'a, F> {
     }
 
     // Adds `a` times sum `from` to sum `to`, by way of `scratch`.
-    #[tactic(auto, using(layout::proofs::Places::part_ends))]
     fn add_entry(&self, sums: &mut [u32], scratch: &mut [u32], a: u32, to: usize, from: usize)
         requires sums { Packets self.now.shape.now (parity_of self.now.shape.now) sums.old }
         requires scratch { length scratch.old ≡ packet_of self.now.shape.now }
@@ -148,7 +141,6 @@ impl<'a, F: Arithmetic> Solver<'a, F> {
     }
 
     // Adds the packets found, in the first sums, to the sums behind them.
-    #[tactic(auto, using(layout::proofs::Places::part_ends))]
     pub(crate) fn add_found(&self, sums: &mut [u32], scratch: &mut [u32])
         requires sums { Packets self.now.shape.now (parity_of self.now.shape.now) sums.old }
         requires scratch { length scratch.old ≡ packet_of self.now.shape.now }

@@ -13,7 +13,6 @@ use layout::shape::Shape;
 use refusal::Refusal;
 
 // Adds a packet at node `x` to the sums from `first` on: sum μ gains x^μ times the packet.
-#[tactic(auto, using(layout::proofs::Places::part_ends))]
 pub(crate) fn add_packet<F: Arithmetic>(
     shape: &Shape,
     sums: &mut [u32],

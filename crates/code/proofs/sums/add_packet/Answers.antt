@@ -11,6 +11,9 @@ use Rattle.layout.proofs.Entries.{entry_read}
 use Rattle.code.proofs.Absorbs.{absorbed_none, absorbed_more}
 use Rattle.code.proofs.sums.add_packet.Goals as goal
 
+pub slice_bounds-add_times-end : goal.slice_bounds-add_times-end
+slice_bounds-add_times-end g c = let h = part_ends c.loop-sum.sum _ c.packet-p.result c.parity-sum-end.ensures c.packet-p.ensures.value c.requires.sums c.loop-sum-test.true in search rules
+
 pub loop-sum-init : goal.loop-sum-init
 loop-sum-init g c =
     (c.raise-a.ensures ∙ ap (λ y. power g.F.Arithmetic.prod y c.args.first) (mod-eq_of_lt c.requires.element), absorbed_none _ _ _ _ _ _)

@@ -6,6 +6,11 @@ use Rattle.layout.proofs.Entries.{entry_read}
 use Rattle.code.proofs.Founds.{found_none, found_more}
 use Rattle.code.proofs.solver.Solver.add_found.Goals as goal
 
+pub slice_bounds-copy_from_slice-end : goal.slice_bounds-copy_from_slice-end
+slice_bounds-copy_from_slice-end g c =
+    let h = part_ends c.loop-s.s (parity_of c.args.self.now.shape.now) c.packet-p.result refl c.packet-p.ensures.value (c.loop-s.invariant.0 ∙ c.requires.sums) (omega arith) in
+    search rules
+
 pub loop-s-init : goal.loop-s-init
 loop-s-init g c = (refl, found_none _ _ _ _ _)
 

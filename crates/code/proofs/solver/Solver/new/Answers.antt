@@ -33,16 +33,18 @@ invariant_of-result g c =
     let f = g.F.Arithmetic in
     let s = c.args.shape.now in
     let l = c.args.losses.now in
-    let field = g.met.F.Arithmetic.field in
-    let laws = laws_of s.rows f.bits f.prod f.inv c.requires.width field in
+    let laws = laws_of s.rows f.bits f.prod f.inv c.requires.width g.met.F.Arithmetic.field in
     let len = c.positions.ensures.len in
     let all : c.loop-s.s ≡ l.len = let e = c.positions-p-items.ensures.len in omega arith in
     record {
       width = c.requires.width;
-      few = let k = c.requires.few in omega arith;
-      elements = λ k. elim (dec_lt k c.loop-s.s) [
-        | yes h ↦ rw (c.loop-s.invariant.1 k h) (power_lt field 2 (lost l k) (two_lt field))
-        | no h ↦ rw (c.loop-s.invariant.2 k (omega arith)) (pow_pos f.bits)
-      ];
-      apart = rw len (lost_apart s f.prod f.inv laws l c.requires.below c.loop-s.nodes (λ k h. c.loop-s.invariant.1 k (omega arith)));
+      solvable = record {
+        laws = laws;
+        few = let k = c.requires.few in omega arith;
+        elements = λ k. elim (dec_lt k c.loop-s.s) [
+          | yes h ↦ rw (c.loop-s.invariant.1 k h) (power_lt laws 2 (lost l k) (two_lt laws))
+          | no h ↦ rw (c.loop-s.invariant.2 k (omega arith)) (pow_pos s.rows)
+        ];
+        apart = rw len (lost_apart s f.prod f.inv laws l c.requires.below c.loop-s.nodes (λ k h. c.loop-s.invariant.1 k (omega arith)));
+      };
     }
