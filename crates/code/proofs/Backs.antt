@@ -1,5 +1,5 @@
 -- The backward steps of the solver: each leaves the same solutions.
-use Rattle.std.proofs.Common.{◌≡◌, ℕ, zero, suc, ◌+◌, ◌-◌, ◌^◌, ◌<◌, ◌≤◌, ◌↔◌, List, sym, refl, ap, ◌∙◌, ap₂, add-one, arith}
+use Rattle.std.proofs.Common.{◌≡◌, ℕ, zero, suc, ◌+◌, ◌-◌, ◌^◌, ◌<◌, ◌↔◌, List, sym, refl, ap, ◌∙◌, ap₂, add-one, arith}
 use mathlib.Core.Logic.Iff
 use native.Mathlib.Decide.{ℕ_discrete}
 use lib.Bits.{bit_xor, xor_lt, xor_assoc, xor_self, xor_zero_l}
@@ -7,7 +7,7 @@ use Rattle.galois.specs.Field.{FieldLaws}
 use Rattle.galois.proofs.Powers.{one_lt}
 use Rattle.algebra.specs.Code.{Code, Packet, SamePacket, scaled}
 use Rattle.algebra.specs.Laws.{Xor, Ops, Laws, gap}
-use Rattle.algebra.specs.Loops.{Sys, Apart, Added, Scaled, upd, theta, taking}
+use Rattle.algebra.specs.Loops.{Sys, Added, Scaled, upd, theta, taking}
 use Rattle.algebra.specs.Packets.{Ok, Nz}
 use Rattle.algebra.specs.Grids.{Grid, grid_xor, grid_ops, rows}
 use Rattle.algebra.proofs.Sums.{sys_right, upd_at, upd_off}

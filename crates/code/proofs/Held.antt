@@ -1,5 +1,5 @@
 -- Packets read from a run one after another.
-use Rattle.std.proofs.Common.{◌≡◌, ℕ, ◌+◌, ◌<◌, true, false, List, Ok, sym, ap, ◌∙◌, subst, zero-add, arith}
+use Rattle.std.proofs.Common.{◌≡◌, ℕ, ◌+◌, true, false, List, Ok, sym, ap, ◌∙◌, subst, zero-add, arith}
 use Rattle.algebra.specs.Code.{Packet, Block, SamePacket, among}
 use Rattle.layout.specs.declared.shape.Shape.{Shape}
 use Rattle.layout.specs.declared.losses.LossList.{LossList}

@@ -1,5 +1,5 @@
 -- What the steps on rows keep from turn to turn.
-use Rattle.std.proofs.Common.{◌≡◌, ℕ, ◌+◌, ◌*◌, ◌/◌, ◌^◌, ◌<◌, ◌≤◌, List, length, get_or, set, sym, refl, ap, ◌∙◌, ap₂, one-mul, zero-mul, add-one, arith, get_or-set_other, get_or-set_same}
+use Rattle.std.proofs.Common.{◌≡◌, ℕ, ◌+◌, ◌*◌, ◌/◌, ◌^◌, ◌<◌, ◌≤◌, List, length, get_or, sym, refl, ap, ◌∙◌, ap₂, one-mul, zero-mul, add-one, arith}
 use native.Mathlib.Decide.{ℕ_discrete}
 use borrow.Rule.Slice.PartMut.{put_mid}
 use lib.Bits.{bit_xor, bit_and, and_mask, xor_zero_r}
@@ -31,9 +31,6 @@ module _ (columns : List ℕ) (i : ℕ) (p : Packet) (c n : ℕ) where
 pub record RowsDone (m w : ℕ) (columns s : List ℕ) (n : ℕ) (e t : List ℕ) : Type 0 where
   pub at : (i c : ℕ) → i < n → c < w → packet_in w t i c ≡ bit_xor (packet_in w e i c) (selected m columns i (packet_in w s) c)
   pub off : (i c : ℕ) → n ≤ i → c < w → packet_in w t i c ≡ packet_in w e i c
-
-pub rows_none : (m w : ℕ) (columns s e : List ℕ) → RowsDone m w columns s 0 e e
-rows_none m w columns s e = record { at = λ i c h l. absurd (omega arith); off = λ i c h l. refl }
 
 -- row n is written
 pub rows_more : (m w : ℕ) (columns s : List ℕ) (n v k : ℕ) (e t y : List ℕ) → v ≡ w → k ≡ v → n * v + v ≤ length t → length y ≡ v

@@ -1,5 +1,5 @@
 -- The forward steps of the solver: each leaves the same solutions.
-use Rattle.std.proofs.Common.{◌≡◌, ℕ, suc, ◌+◌, ◌^◌, ◌<◌, ◌≤◌, List, sym, arith}
+use Rattle.std.proofs.Common.{◌≡◌, ℕ, suc, ◌+◌, ◌<◌, ◌≤◌, List, sym, arith}
 use Rattle.galois.specs.Field.{FieldLaws}
 use Rattle.algebra.specs.Laws.{Laws}
 use Rattle.algebra.specs.Loops.{Added, staged}
@@ -10,7 +10,6 @@ use Rattle.algebra.proofs.Coef.{form_zero}
 use Rattle.algebra.proofs.Loops.{staged_step, staged_first, staged_last}
 use Rattle.algebra.proofs.Bridge.{grid_laws, added_rows}
 use Rattle.layout.specs.declared.shape.Shape.{Shape}
-use Rattle.layout.specs.Sizes.{parity_of}
 use Rattle.layout.specs.Blocks.{code_of, block_at}
 use Rattle.code.specs.Solving.{node_at, Solvable, entry, Stepped, Keeps, sums_of, stage_of}
 

@@ -1,9 +1,8 @@
 -- Runs of packets that have the same words are the same runs.
-use Rattle.std.proofs.Common.{◌≡◌, ℕ, ◌+◌, ◌*◌, ◌/◌, ◌%◌, ◌<◌, List, ◌++◌, length, get_or, take, sym, ap, ◌∙◌, add-zero, div-add-mod', arith}
+use Rattle.std.proofs.Common.{◌≡◌, ℕ, ◌+◌, ◌*◌, ◌/◌, ◌%◌, ◌<◌, List, ◌++◌, length, get_or, sym, ap, ◌∙◌, add-zero, div-add-mod', arith}
 use native.Mathlib.Decide.{dec_lt}
-use native.Mathlib.Nat.{min-le_left}
 use Rattle.std.proofs.lemmas.Nat.{mul-le, div_below, div-mul-add, mod_below}
-use Rattle.std.proofs.lemmas.List.{ext_get_or, get_or-take, get_or_past, get_or_append_left, length-take}
+use Rattle.std.proofs.lemmas.List.{ext_get_or, get_or_past, get_or_append_left}
 use Rattle.layout.specs.declared.shape.Shape.{Shape}
 use Rattle.layout.specs.Sizes.{packet_of, packets_in, Packets}
 use Rattle.layout.specs.Blocks.{block_at, ZeroRun}

@@ -1,4 +1,4 @@
-use Rattle.std.proofs.Common.{◌+◌, ◌∙◌, subst, zero-add, arith}
+use Rattle.std.proofs.Common.{◌+◌, ◌∙◌, subst, zero-add}
 use Rattle.algebra.proofs.Marks.{among_at}
 use Rattle.layout.specs.Sizes.{packets_in, lost}
 use Rattle.layout.specs.Blocks.{block_at}

@@ -1,4 +1,4 @@
-use Rattle.std.proofs.Common.{◌≡◌, ◌+◌, ◌*◌, ◌≤◌, length, refl, ap, ◌∙◌, arith, rules}
+use Rattle.std.proofs.Common.{◌≡◌, ◌+◌, ◌*◌, ◌≤◌, length, refl, ap, ◌∙◌, arith}
 use Rattle.layout.specs.Blocks.{packet_in}
 use Rattle.layout.proofs.Places.{part_ends}
 use Rattle.layout.proofs.Entries.{entry_written, entry_kept}

@@ -1,10 +1,10 @@
-use Rattle.std.proofs.Common.{◌+◌, ◌*◌, ◌≤◌, length, ap, ◌∙◌, arith, rules}
+use Rattle.std.proofs.Common.{◌+◌, ◌*◌, ◌≤◌, length, ap, ◌∙◌, arith}
 use lib.Bits.{bit_xor}
 use Rattle.layout.proofs.Places.{part_ends}
 use Rattle.layout.specs.Blocks.{packet_in}
 use Rattle.code.specs.Packets.{selected}
 use Rattle.layout.proofs.Parts.{part_read, part_length}
-use Rattle.code.proofs.Rows.{rows_none, rows_more}
+use Rattle.code.proofs.Rows.{rows_more}
 use Rattle.code.proofs.packet.add_product.Goals as goal
 
 pub loop-i-preserved : goal.loop-i-preserved

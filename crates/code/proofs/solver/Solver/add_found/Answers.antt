@@ -1,4 +1,4 @@
-use Rattle.std.proofs.Common.{◌≡◌, ◌<◌, refl, ap, ◌∙◌, arith, rules}
+use Rattle.std.proofs.Common.{refl, ap, ◌∙◌, arith, rules}
 use Rattle.layout.specs.Sizes.{parity_of}
 use Rattle.layout.specs.Blocks.{packet_in}
 use Rattle.layout.proofs.Places.{part_ends}

@@ -1,4 +1,4 @@
-use Rattle.std.proofs.Common.{◌≡◌, ℕ, ◌+◌, ◌-◌, ◌%◌, ◌^◌, refl, ◌∙◌, subst, mod-eq_of_lt, arith}
+use Rattle.std.proofs.Common.{◌≡◌, ◌+◌, ◌-◌, ◌%◌, ◌^◌, refl, ◌∙◌, subst, mod-eq_of_lt, arith}
 use mathlib.Core.Logic.Iff
 use native.Mathlib.Decide.{dec_lt}
 use Rattle.code.specs.Solving.{node_at, Stepped}

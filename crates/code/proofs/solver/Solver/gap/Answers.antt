@@ -1,4 +1,4 @@
-use Rattle.std.proofs.Common.{◌≡◌, ℕ, ◌+◌, ◌-◌, ◌%◌, ◌^◌, ◌<◌, List, length, drop, get_or, sym, refl, ap, ◌∙◌, ap₂, add-one, mod-eq_of_lt, arith, length-drop}
+use Rattle.std.proofs.Common.{◌≡◌, ℕ, ◌+◌, ◌-◌, ◌%◌, ◌^◌, ◌<◌, List, length, drop, get_or, sym, ap, ◌∙◌, ap₂, add-one, mod-eq_of_lt, arith, length-drop}
 use lib.Bits.{bit_xor, xor_lt}
 use borrow.Rule.Slice.PartMut.{mid_of}
 use Rattle.std.proofs.lemmas.List.{get_or-take, get_or-drop, length-take-le}

@@ -1,4 +1,4 @@
-use Rattle.std.proofs.Common.{◌≡◌, ◌^◌, ◌<◌, ◌≤◌, length, get_or, set, sym, refl, ap, ◌∙◌, ap₂, mod-eq_of_lt, arith, length-set, get_or-set_other, get_or-set_same, pow_mono, pow_pos}
+use Rattle.std.proofs.Common.{◌≡◌, ◌<◌, length, get_or, set, sym, refl, ap, ◌∙◌, ap₂, mod-eq_of_lt, arith, length-set, get_or-set_other, get_or-set_same, pow_pos}
 use native.Mathlib.Decide.{ℕ_discrete, dec_lt}
 use Rattle.galois.specs.Field.{power}
 use Rattle.galois.proofs.Powers.{two_lt, power_lt}

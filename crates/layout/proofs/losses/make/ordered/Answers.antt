@@ -1,9 +1,8 @@
-use Rattle.std.proofs.Common.{◌<◌, ◌≤◌, ltb, subst, sym, rules}
+use Rattle.std.proofs.Common.{◌<◌, ◌≤◌, ltb, rules}
 use borrow.Author.Tests.{tests}
 use Rattle.std.proofs.lemmas.Iterator.{cases_from_all, YieldsList-from_slice}
 use Rattle.std.proofs.lemmas.List.Sorted.{answers_always}
-use Rattle.layout.specs.Rules.{Ordered}
-use Rattle.layout.proofs.Positions.{ordered_by_steps, not_ordered}
+use Rattle.layout.proofs.Positions.{ordered_by_steps}
 use Rattle.layout.proofs.losses.make.ordered.Goals as goal
 
 pub returns-then-all : goal.returns-then-all
