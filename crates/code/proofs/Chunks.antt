@@ -1,8 +1,13 @@
 -- The elements of a list, and the packets of a run, one after another.
-use Rattle.std.proofs.Common.{◌≡◌, ℕ, suc, ◌+◌, ◌-◌, ◌*◌, ◌<◌, ◌≤◌, List, ◌∷◌, ◌++◌, length, get_or, take, drop, min, sym, ap, ◌∙◌, inl, inr, mul-le-mul_right, add-mul, arith, length-drop}
+use Rattle.std.proofs.Common.{◌≡◌, ℕ, ◌+◌, ◌-◌, ◌*◌, ◌<◌, ◌≤◌, List, ◌∷◌, ◌++◌, length, get_or, take, drop, min, sym, ap, ◌∙◌, ◌⊎◌, inl, inr, mul-le-mul_right, add-mul, arith, length-drop}
 use Rattle.std.specs.List.{between}
 use Rattle.std.proofs.lemmas.Bool.{cases_lt}
 use Rattle.std.proofs.lemmas.List.{take_at, drop_at, drop-drop, get_or-drop}
+use Rattle.layout.specs.declared.shape.Shape.{Shape}
+use Rattle.layout.specs.declared.losses.LossList.{LossList}
+use Rattle.layout.specs.Sizes.{packet_of, Packets, lost}
+use Rattle.layout.specs.Made.{lost_at}
+use Rattle.layout.proofs.Blocks.{packet_pos}
 
 -- element number n, x, of a list comes from an iterator over it
 pub record ItemTurn (xs : List ℕ) (n x : ℕ) (next : List ℕ) : Type 0 where
@@ -14,14 +19,11 @@ pub item_turn : (xs : List ℕ) (n x : ℕ) (left next : List ℕ) → left ≡ 
 item_turn xs n x left next at cut = record {
   lt = elim (cases_lt n (length xs)) [
     | inl lt ↦ lt
-    | inr le ↦ let e = sym (length-drop n xs) ∙ ap length (sym at ∙ cut) in absurd (let z : length (x ∷ next) ≡ length next + 1 = add-one-rev (length next) in omega arith)
+    | inr le ↦ let e = sym (length-drop n xs) ∙ ap length (sym at ∙ cut) in absurd (let z : length (x ∷ next) ≡ length next + 1 = omega arith in omega arith)
   ];
   is = ap (λ l. get_or l 0 0) (sym cut ∙ at) ∙ get_or-drop n xs 0 0 ∙ ap (λ k. get_or xs k 0) (omega arith);
   left = ap (drop 1) (sym cut ∙ at) ∙ drop-drop 1 n xs;
 }
-  where
-    add-one-rev : (k : ℕ) → suc k ≡ k + 1
-    add-one-rev k = omega arith
 
 -- part number n, x, of a run of m parts of p words comes from an iterator over its chunks
 pub record ChunkTurn (p : ℕ) (run : List ℕ) (m n : ℕ) (x next : List ℕ) : Type 0 where
@@ -56,3 +58,34 @@ chunks_done p run m n some size le none = elim (cases_lt n m) [
       absurd (omega (arith, add-mul n 1 p))
   | inr ge ↦ omega arith
 ]
+
+-- lost position number n, q, and packet number n, x, of a run of m packets come from the two iterators together
+pub record LostTurn (s : Shape) (l : LossList) (run : List ℕ) (m n q : ℕ) (x left right : List ℕ) : Type 0 where
+  pub listed : n < l.len
+  pub at : q ≡ lost l n
+  pub places : left ≡ drop (n + 1) (lost_at l)
+  pub packet : ChunkTurn (packet_of s) run m n x right
+
+module _ (s : Shape) (l : LossList) (run : List ℕ) (m n : ℕ) (long : Packets s m run) (xs : List ℕ) (are : xs ≡ lost_at l) (len : length xs ≡ l.len) where
+  lost_length : length (lost_at l) ≡ l.len
+  lost_length = sym (ap length are) ∙ len
+
+  pub lost_turn : ((k : ℕ) → k < l.len → get_or xs k 0 ≡ lost l k) → (q size : ℕ) (left left' right x right' : List ℕ) → left ≡ drop n (lost_at l) → left ≡ q ∷ left'
+      → size ≡ packet_of s → right ≡ drop (n * packet_of s) run → (right ≡ x ++ right') × (length x ≡ min size (length right)) × (0 < length right)
+      → LostTurn s l run m n q x left' right'
+  lost_turn places q size left left' right x right' here item same there step =
+      let place = item_turn (lost_at l) n q left left' here item in
+      let lt = place.lt in
+      let whole = lost_length in
+      let listed : n < l.len = omega arith in
+      record {
+        listed = listed;
+        at = place.is ∙ sym (ap (λ z. get_or z n 0) are) ∙ places n listed;
+        places = place.left;
+        packet = chunk_turn (packet_of s) run m n size right x right' (packet_pos s) long same there step;
+      }
+
+  -- one of the two has no more
+  pub lost_done : (left right : List ℕ) → left ≡ drop n (lost_at l) → right ≡ drop (n * packet_of s) run → n ≤ l.len → l.len ≤ m → (length left ≡ 0) ⊎ (length right ≡ 0) → n ≡ l.len
+  lost_done left right here there le few (inl none) = let e = sym (length-drop n (lost_at l)) ∙ ap length (sym here) ∙ none in let whole = lost_length in omega arith
+  lost_done left right here there le few (inr none) = let e = chunks_done (packet_of s) run m n (packet_pos s) long (omega arith) (ap length (sym there) ∙ none) in omega arith

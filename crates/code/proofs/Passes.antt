@@ -1,12 +1,10 @@
 -- Where the checks of the calls refuse nothing.
-use Rattle.std.proofs.Common.{◌≡◌, ℕ, ◌+◌, ◌<◌, ◌≤◌, true, ltb, List, length, None, sym, ◌∙◌, one-mul, arith}
+use Rattle.std.proofs.Common.{◌≡◌, ℕ, ◌<◌, ◌≤◌, true, ltb, List, length, None, sym, ◌∙◌, one-mul, arith}
 use Rattle.std.proofs.lemmas.Bool.{cond-true}
 use Rattle.layout.specs.declared.shape.Shape.{Shape}
 use Rattle.layout.specs.declared.losses.LossList.{LossList}
 use Rattle.layout.specs.Sizes.{parity_of, packet_of, Packets, LostBelow}
-use Rattle.layout.specs.Checks.{width_refusal, run_refusal}
-use Rattle.layout.proofs.Passes.{both_pass, pass_both, width_passes, width_ok, run_passes, run_ok, losses_ok}
-use Rattle.code.specs.Calls.{check_refusal}
+use Rattle.layout.proofs.Passes.{pass_both, width_ok, run_ok, losses_ok}
 use Rattle.code.specs.Rebuilt.{absorb_refusal, rebuild_refusal}
 
 module _ (bits : ℕ) (s : Shape) (width : s.rows ≡ bits) (sums : List ℕ) (size : Packets s (parity_of s) sums) where
@@ -18,15 +16,3 @@ module _ (bits : ℕ) (s : Shape) (width : s.rows ≡ bits) (sums : List ℕ) (s
   pub rebuild_passes : (l : LossList) (scratch : List ℕ) → LostBelow l s.positions → l.len ≤ parity_of s → length scratch ≡ packet_of s → rebuild_refusal bits s l sums scratch ≡ None
   rebuild_passes l scratch below few long =
       pass_both _ _ (width_ok bits s width) (pass_both _ _ (run_ok s (parity_of s) sums 0 size) (pass_both _ _ (run_ok s 1 scratch 1 (long ∙ sym (one-mul _))) (losses_ok s l below few)))
-
--- what the checks of the runs say where they pass
-pub record RunsPass (bits : ℕ) (s : Shape) (block work : List ℕ) : Type 0 where
-  pub width : s.rows ≡ bits
-  pub block_size : Packets s s.positions block
-  pub work_size : Packets s (parity_of s + 1) work
-
-pub runs_pass : (bits : ℕ) (s : Shape) (block work : List ℕ) → check_refusal bits s block work ≡ None → RunsPass bits s block work
-runs_pass bits s block work e =
-    let a = both_pass (width_refusal bits s) _ e in
-    let b = both_pass (run_refusal s s.positions block 0) (run_refusal s (parity_of s + 1) work 1) a.1 in
-    record { width = width_passes bits s a.0; block_size = run_passes s s.positions block 0 b.0; work_size = run_passes s (parity_of s + 1) work 1 b.1 }

@@ -1,6 +1,5 @@
 -- The packets that are found complete the codewords that agree with the block.
-use Rattle.std.proofs.Common.{◌≡◌, ℕ, ◌+◌, ◌*◌, ◌^◌, ◌<◌, true, false, cond, List, length, get_or, is_ok, Ok, Err, Result, sym, refl, ap, ◌∙◌, subst, inl, inr, arith}
-use Rattle.refusal.specs.declared.Refusal.{Refusal}
+use Rattle.std.proofs.Common.{◌≡◌, ℕ, ◌+◌, ◌*◌, ◌^◌, ◌<◌, true, false, cond, List, length, get_or, sym, ap, ◌∙◌, subst, inl, inr}
 use Rattle.algebra.specs.Code.{Block, SamePacket, among}
 use Rattle.algebra.proofs.Marks.{two, among_find}
 use Rattle.layout.specs.declared.shape.Shape.{Shape}
@@ -8,8 +7,8 @@ use Rattle.layout.specs.declared.losses.LossList.{LossList}
 use Rattle.layout.specs.Sizes.{packet_of, Packets, lost}
 use Rattle.layout.specs.Blocks.{code_of, block_at}
 use Rattle.layout.proofs.Blocks.{same_runs}
-use Rattle.code.specs.Lost.{AgreeOff, LostPackets, FoundLost}
-use Rattle.code.specs.Calls.{CodewordRun, Says, Repaired}
+use Rattle.code.specs.Lost.{AgreeOff, LostPackets}
+use Rattle.code.specs.Calls.{Repaired}
 use Rattle.code.specs.Written.{Written}
 
 -- a block with its lost packets read as zero
@@ -44,15 +43,3 @@ repaired s prod l block V after long same fits found w =
             | inr f ↦ agree q h f i c p r ∙ sym (agrees q h f i c p r)
           ]);
     }
-
--- nothing is lost: the block is a codeword if and only if nothing is contradictory
-module _ (s : Shape) (prod : ℕ → ℕ → ℕ) (l : LossList) (whole : l.len ≡ 0) (block V : List ℕ) (long : Packets s s.positions block) (fits : (k : ℕ) → get_or block k 0 < 2 ^ 32) where
-  pub says : (r : Result (Unit {0}) Refusal) → FoundLost s prod l (block_at s block) V r → Says (is_ok r) (CodewordRun s prod block)
-  says (Ok u) f = (
-    long,
-    record {
-      words = λ q _ i c _ _. fits (q * packet_of s + (i * s.words + c));
-      sums = f.zero (block_at s block) (λ q h e i c p r. refl) (λ k h. absurd (omega arith));
-    },
-  )
-  says (Err e) f = λ is. f.contradicted.none (block_at s block) is.1 (λ q h g i c p r. refl)

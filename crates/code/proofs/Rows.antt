@@ -1,5 +1,5 @@
 -- What the steps on rows keep from turn to turn.
-use Rattle.std.proofs.Common.{◌≡◌, ℕ, ◌+◌, ◌*◌, ◌/◌, ◌^◌, ◌<◌, ◌≤◌, List, length, get_or, set, sym, refl, ap, ◌∙◌, ap₂, one-mul, zero-mul, add-one, arith, get_or-set_other, get_or-set_same}
+use Rattle.std.proofs.Common.{◌≡◌, ℕ, ◌+◌, ◌*◌, ◌/◌, ◌^◌, ◌<◌, ◌≤◌, List, length, get_or, sym, refl, ap, ◌∙◌, ap₂, one-mul, zero-mul, add-one, arith}
 use native.Mathlib.Decide.{ℕ_discrete}
 use borrow.Rule.Slice.PartMut.{put_mid}
 use lib.Bits.{bit_xor, bit_and, and_mask, xor_zero_r}
@@ -7,23 +7,6 @@ use Rattle.algebra.specs.Code.{Packet, xors, bit}
 use Rattle.layout.specs.Blocks.{packet_in}
 use Rattle.code.specs.Packets.{selected}
 use Rattle.layout.proofs.Parts.{part_written, part_kept}
-
--- the first n words of t are those of e with those of s added
-pub record Added (n : ℕ) (e s t : List ℕ) : Type 0 where
-  pub at : (c : ℕ) → c < n → get_or t c 0 ≡ bit_xor (get_or e c 0) (get_or s c 0)
-  pub off : (c : ℕ) → n ≤ c → get_or t c 0 ≡ get_or e c 0
-
-pub added_none : (e s : List ℕ) → Added 0 e s e
-added_none e s = record { at = λ c h. absurd (omega arith); off = λ c h. refl }
-
-pub added_more : (n : ℕ) (e s t : List ℕ) → n < length t → Added n e s t → Added (n + 1) e s (set t n (bit_xor (get_or t n 0) (get_or s n 0)))
-added_more n e s t h d = record {
-  at = λ c l. elim (ℕ_discrete c n) [
-    | yes q ↦ rw q (get_or-set_same t n _ 0 h ∙ ap (λ u. bit_xor u (get_or s n 0)) (d.off n (omega arith)))
-    | no q ↦ get_or-set_other t n c _ 0 q ∙ d.at c (omega arith)
-  ];
-  off = λ c l. get_or-set_other t n c _ 0 (λ q. omega arith) ∙ d.off c (omega arith);
-}
 
 -- one row more is selected, or not
 module _ (columns : List ℕ) (i : ℕ) (p : Packet) (c n : ℕ) where
@@ -48,9 +31,6 @@ module _ (columns : List ℕ) (i : ℕ) (p : Packet) (c n : ℕ) where
 pub record RowsDone (m w : ℕ) (columns s : List ℕ) (n : ℕ) (e t : List ℕ) : Type 0 where
   pub at : (i c : ℕ) → i < n → c < w → packet_in w t i c ≡ bit_xor (packet_in w e i c) (selected m columns i (packet_in w s) c)
   pub off : (i c : ℕ) → n ≤ i → c < w → packet_in w t i c ≡ packet_in w e i c
-
-pub rows_none : (m w : ℕ) (columns s e : List ℕ) → RowsDone m w columns s 0 e e
-rows_none m w columns s e = record { at = λ i c h l. absurd (omega arith); off = λ i c h l. refl }
 
 -- row n is written
 pub rows_more : (m w : ℕ) (columns s : List ℕ) (n v k : ℕ) (e t y : List ℕ) → v ≡ w → k ≡ v → n * v + v ≤ length t → length y ≡ v

@@ -1,5 +1,5 @@
 -- The packets found, written to the block.
-use Rattle.std.proofs.Common.{◌≡◌, ℕ, suc, ◌+◌, ◌<◌, List, sym, refl, ap, ◌∙◌, add-one, arith}
+use Rattle.std.proofs.Common.{◌≡◌, ℕ, suc, ◌+◌, ◌<◌, List, sym, ap, ◌∙◌, add-one, arith}
 use native.Mathlib.Decide.{ℕ_discrete}
 use Rattle.algebra.specs.Code.{among}
 use Rattle.algebra.proofs.Marks.{true_false, among_at, among_skip}
@@ -10,9 +10,6 @@ use Rattle.layout.specs.Blocks.{block_at}
 use Rattle.code.specs.Written.{Written}
 
 module _ (s : Shape) (l : LossList) (sums e : List ℕ) where
-  pub written_none : Written s l 0 sums e e
-  written_none = record { at = λ k i c h a b. absurd (omega arith); off = λ q i c h a b. refl }
-
   -- one packet more is written
   pub written_more : (n : ℕ) (u u' : List ℕ) → n < l.len
       → ((i c : ℕ) → i < s.rows → c < s.words → block_at s u' (lost l n) i c ≡ block_at s sums n i c)

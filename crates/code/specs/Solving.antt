@@ -1,8 +1,10 @@
 -- What the steps of the solver do to the sums. C is the code of the shape, x the nodes, and t the number of lost packets.
-use Rattle.std.specs.Prelude.{ℕ, zero, suc, ◌+◌, ◌<◌, ◌≤◌, ◌↔◌, List, ◌≢◌, bit_xor, slice_index}
+use Rattle.std.specs.Prelude.{ℕ, zero, suc, ◌+◌, ◌^◌, ◌<◌, ◌≤◌, ◌↔◌, List, ◌≢◌, bit_xor, slice_index}
+use Rattle.galois.specs.Field.{FieldLaws}
 use Rattle.algebra.specs.Code.{SamePacket, scaled}
 use Rattle.algebra.specs.Laws.{vander, form}
-use Rattle.algebra.specs.Loops.{Sys, found}
+use Rattle.algebra.specs.Loops.{Sys, Apart, found}
+use Rattle.algebra.specs.Packets.{Nz}
 use Rattle.algebra.specs.Grids.{Grid, grid_xor, grid_ops, rows}
 use Rattle.layout.specs.declared.shape.Shape.{Shape}
 use Rattle.layout.specs.Sizes.{parity_of}
@@ -11,6 +13,13 @@ use Rattle.layout.specs.Blocks.{code_of, block_at}
 -- node number s
 abbrev pub node_at : List ℕ → ℕ → ℕ
 node_at x s = slice_index x s
+
+-- what can be solved: a lawful arithmetic as wide as the rows, and t nodes, no more than there are sums, that are elements of it and apart
+pub record Solvable (s : Shape) (prod : ℕ → ℕ → ℕ) (inv : ℕ → ℕ) (x : List ℕ) (t : ℕ) : Type 0 where
+  pub laws : FieldLaws s.rows prod inv
+  pub few : t ≤ parity_of s
+  pub elements : (k : ℕ) → node_at x k < 2 ^ s.rows
+  pub apart : Apart (grid_ops (code_of s prod) inv) (Nz s.rows) (node_at x) t
 
 -- the product of y + x s over the s from j to j + k - 1
 unfoldable pub gap_of : (ℕ → ℕ → ℕ) → (ℕ → ℕ) → ℕ → ℕ → ℕ → ℕ

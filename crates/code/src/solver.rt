@@ -1,13 +1,9 @@
 // The packets at lost positions, from the sums of the others.
 ghost use Rattle.std.specs.Prelude.{◌≡◌, ℕ, ◌+◌, ◌-◌, ◌*◌, ◌%◌, ◌^◌, ◌<◌, ◌≤◌, length};
 ghost use Rattle.galois.specs.Field.{power};
-ghost use Rattle.algebra.specs.Loops.{Apart};
-ghost use Rattle.algebra.specs.Packets.{Nz};
-ghost use Rattle.algebra.specs.Grids.{grid_ops};
 ghost use Rattle.layout.specs.Sizes.{parity_of, packet_of, Packets, lost, LostBelow};
-ghost use Rattle.layout.specs.Blocks.{code_of};
 ghost use Rattle.code.specs.Found.{FoundAdded};
-ghost use Rattle.code.specs.Solving.{node_at, gap_of, Copied, Stepped, Untouched, Keeps, sums_of, stage_of, found_of};
+ghost use Rattle.code.specs.Solving.{node_at, Solvable, gap_of, Copied, Stepped, Untouched, Keeps, sums_of, stage_of, found_of};
 
 use crate::packet::{add_times, add_words};
 use crate::sums::add_packet;
@@ -25,9 +21,7 @@ pub(crate) struct Solver<'a, F: Arithmetic> {
     count: usize,
     field: PhantomData<F>,
     ghost width: { shape.now.rows ≡ F.Arithmetic.bits },
-    ghost few: { count ≤ parity_of shape.now },
-    ghost elements: { (s : ℕ) → node_at nodes s < 2 ^ F.Arithmetic.bits },
-    ghost apart: { Apart (grid_ops (code_of shape.now F.Arithmetic.prod) F.Arithmetic.inv) (Nz shape.now.rows) (node_at nodes) count },
+    ghost solvable: { Solvable shape.now F.Arithmetic.prod F.Arithmetic.inv nodes count },
 }
 
 // Copies sum 0 to sum `n`.
@@ -98,6 +92,7 @@ impl<'a, F: Arithmetic> Solver<'a, F> {
     }
 
     // The product of x_n + x_s over the s from j to n - 1.
+    #[tactic(auto, unfolding(crate::specs::Solving::gap_of))]
     fn gap(&self, j: usize, n: usize) -> u32
         requires order { j ≤ n }
         requires within { n < self.now.count }

@@ -1,15 +1,14 @@
 -- Runs of packets that have the same words are the same runs.
-use Rattle.std.proofs.Common.{◌≡◌, ℕ, ◌+◌, ◌*◌, ◌/◌, ◌%◌, ◌<◌, List, ◌++◌, length, get_or, take, sym, ap, ◌∙◌, add-zero, div-add-mod', arith}
+use Rattle.std.proofs.Common.{◌≡◌, ℕ, ◌+◌, ◌*◌, ◌/◌, ◌%◌, ◌<◌, List, ◌++◌, length, get_or, sym, ap, ◌∙◌, add-zero, div-add-mod', arith}
 use native.Mathlib.Decide.{dec_lt}
-use native.Mathlib.Nat.{min-le_left}
 use Rattle.std.proofs.lemmas.Nat.{mul-le, div_below, div-mul-add, mod_below}
-use Rattle.std.proofs.lemmas.List.{ext_get_or, get_or-take, get_or_past, get_or_append_left, length-take}
+use Rattle.std.proofs.lemmas.List.{ext_get_or, get_or_past, get_or_append_left}
 use Rattle.layout.specs.declared.shape.Shape.{Shape}
 use Rattle.layout.specs.Sizes.{packet_of, packets_in, Packets}
 use Rattle.layout.specs.Blocks.{block_at, ZeroRun}
 
 module _ (s : Shape) where
-  packet_pos : 0 < packet_of s
+  pub packet_pos : 0 < packet_of s
   packet_pos = let h = mul-le 3 1 s.rows s.words s.field.0 s.sizes.2 in omega arith
 
   -- a run of n packets has room for n
@@ -37,13 +36,7 @@ module _ (s : Shape) where
       ∙ e q (j / s.words) (j % s.words) (div_below k (packet_of s) n packet_pos (omega arith)) (row_lt j lt) (column_lt j)
       ∙ ap (λ m. get_or ys m 0) at)
 
--- a part of a run of zeros
-pub zero_take : (n : ℕ) (xs : List ℕ) → ZeroRun xs → ZeroRun (take n xs)
-zero_take n xs z k = elim (dec_lt k n) [
-  | yes h ↦ get_or-take n xs k 0 h ∙ z k
-  | no h ↦ get_or_past (take n xs) k 0 (let e = length-take n xs in let m = min-le_left n (length xs) in omega arith)
-]
-
+-- the front of a run of zeros
 pub zero_front : (xs ys : List ℕ) → ZeroRun (xs ++ ys) → ZeroRun xs
 zero_front xs ys z k = elim (dec_lt k (length xs)) [
   | yes h ↦ sym (get_or_append_left xs ys 0 k h) ∙ z k

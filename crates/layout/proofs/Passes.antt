@@ -37,11 +37,6 @@ pub below_all : (p : ℕ → ℕ) (t end : ℕ) → ((k : ℕ) → k < t → p k
 below_all p zero end h = below_none p end
 below_all p (suc t) end h = ap (λ n. all_below p n end) (sym (add-one t)) ∙ below_next p t end (h t (omega arith)) (below_all p t end (λ k m. h k (omega arith)))
 
--- no check of two refuses: neither does
-pub both_pass : (a b : Option (ℕ × List ℕ)) → or_else a b ≡ None → (a ≡ None) × (b ≡ None)
-both_pass None b e = (refl, e)
-both_pass (Some x) b e = absurd (let z : ◌≡◌ {A = ℕ} 0 1 = cc in omega arith)
-
 -- two checks pass: both together do
 pub pass_both : (a b : Option (ℕ × List ℕ)) → a ≡ None → b ≡ None → or_else a b ≡ None
 pass_both a b e f = ap (λ u. or_else u b) e ∙ f
@@ -49,9 +44,6 @@ pass_both a b e f = ap (λ u. or_else u b) e ∙ f
 pub test_passes : (b : Bool) (e : ℕ × List ℕ) → ◌≡◌ {A = Option (ℕ × List ℕ)} (cond b None (Some e)) None → b ≡ true
 test_passes true e h = refl
 test_passes false e h = absurd (let z : ◌≡◌ {A = ℕ} 0 1 = cc in omega arith)
-
-pub width_passes : (bits : ℕ) (s : Shape) → width_refusal bits s ≡ None → s.rows ≡ bits
-width_passes bits s e = let b = test_passes (eqb s.rows bits) (1, []) e in grind arith
 
 pub run_passes : (s : Shape) (packets : ℕ) (run : List ℕ) (place : ℕ) → run_refusal s packets run place ≡ None → Packets s packets run
 run_passes s packets run place e = let b = test_passes (eqb (length run) (packets * packet_of s)) (5, place ∷ []) e in grind arith

@@ -7,7 +7,3 @@ part_ends i m p {M} {P} {n} em ep en lt =
     let h : (i + 1) * p ≤ m * p = mul-le-mul_right p (omega arith) in
     let e : m * p ≡ n = ap₂ ◌*◌ em ep ∙ sym en in
     omega (arith, h, e, add-mul i 1 p)
-
--- word j of part i lies within the run
-pub part_word : (i j m p : ℕ) {M P n : ℕ} → m ≡ M → p ≡ P → n ≡ M * P → i < m → j < p → i * p + j < n
-part_word i j m p em ep en lt lj = let h = part_ends i m p em ep en lt in omega arith

@@ -1,8 +1,7 @@
 -- Lists of positions, by their places.
-use Rattle.std.proofs.Common.{◌≡◌, ℕ, zero, suc, ◌+◌, ◌-◌, ◌<◌, ◌≤◌, Bool, true, false, eqb, ltb, List, ◌++◌, length, Some, None, Option, Bor, get_or, take, sym, refl, ap, ◌∙◌, inl, inr, arith}
+use Rattle.std.proofs.Common.{◌≡◌, ℕ, zero, suc, ◌+◌, ◌-◌, ◌<◌, ◌≤◌, Bool, true, false, eqb, ltb, List, length, Some, None, Option, Bor, get_or, sym, ap, ◌∙◌, inl, inr, arith}
 use Rattle.std.specs.Option.{MatchOption}
 use Rattle.std.specs.List.{AllWithin, HoldsAt, IsAllAdjacentAnswer, IsAnyAnswer}
-use Rattle.std.proofs.lemmas.List.{get_or_append_left, take_at}
 use Rattle.std.proofs.lemmas.Bool.{cases_eq}
 use Rattle.algebra.specs.Code.{among}
 use Rattle.algebra.proofs.Marks.{among_at, among_off}
@@ -21,23 +20,6 @@ ascends_by_steps xs step i (suc j) lt le =
 pub ordered_by_steps : (xs : List ℕ) (end : ℕ) (r : Bool) → AllWithin (λ x. x < end) xs 0 (length xs) → IsAllAdjacentAnswer (λ x y b. b ≡ ltb x y) xs r → Ordered xs end r
 ordered_by_steps xs end true below steps = (ascends_by_steps xs (λ k h. let t = steps k 0 h in grind arith), λ i h. below i 0 (omega arith) h)
 ordered_by_steps xs end false below steps = λ o. let (k, h, f) = steps in let lt = o.0 k (k + 1) (omega arith) h in let e = f 0 in grind arith
-
--- positions of which one lies past the end are not
-pub not_ordered : (xs : List ℕ) (end : ℕ) → (k : ℕ) × (k < length xs) × HoldsAt (λ x. end ≤ x) xs k → Ordered xs end false
-not_ordered xs end past = λ o. let (k, h, f) = past in let lt = o.1 k h in let e = f 0 in omega arith
-
--- the front of a run into which an ascending list was copied
-module _ (ys rest from : List ℕ) (e : ys ≡ from) where
-  pub copied : take (length from) (ys ++ rest) ≡ from
-  copied = ap (λ n. take n (ys ++ rest)) (ap length (sym e)) ∙ take_at ys rest (length ys) refl ∙ e
-
-  pub copied_ascends : Ascends from (length from) → Ascends (ys ++ rest) (length from)
-  copied_ascends asc i j lt le =
-      let at = λ (k : ℕ) (h : k < length from). get_or_append_left ys rest 0 k (rw e h) ∙ ap (λ z. get_or z k 0) e in
-      let a = at i (omega arith) in
-      let b = at j le in
-      let h = asc i j lt le in
-      omega arith
 
 -- whether a position is among the positions of a list
 pub among_by_any : (p : ℕ → ℕ) (xs : List ℕ) (q : ℕ) (r : Bool) → ((s : ℕ) → s < length xs → get_or xs s 0 ≡ p s) → IsAnyAnswer (λ y b. eqb y q ≡ b) xs r → r ≡ among p (length xs) q

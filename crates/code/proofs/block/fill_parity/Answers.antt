@@ -8,18 +8,8 @@ use Rattle.code.specs.Held.{Summed}
 use Rattle.code.proofs.Encodes.{parity_below, source_sums, filled}
 use Rattle.code.proofs.block.fill_parity.Goals as goal
 
-pub absorb_held-requires : goal.absorb_held-requires
-absorb_held-requires g c =
-    let s = c.args.shape.now in
-    let n = packets_are s s.sources c.args.source.now c.requires.source in
-    let p = c.parity.ensures in
-    let k = s.counts in
-    record {
-      width = c.requires.width;
-      sums = c.clear.auto.run ∙ c.requires.parity;
-      run = rw n c.requires.source;
-      end = omega arith;
-    }
+pub absorb_held-requires-clause-run : goal.absorb_held-requires-clause-run
+absorb_held-requires-clause-run g c = rw (packets_are c.args.shape.now c.args.shape.now.sources c.args.source.now c.requires.source) c.requires.source
 
 pub returns : goal.returns
 returns g c =

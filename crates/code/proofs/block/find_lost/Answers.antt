@@ -1,4 +1,4 @@
-use Rattle.std.proofs.Common.{◌+◌, ◌∙◌, subst, zero-add, arith}
+use Rattle.std.proofs.Common.{◌+◌, ◌∙◌, subst, zero-add}
 use Rattle.algebra.proofs.Marks.{among_at}
 use Rattle.layout.specs.Sizes.{packets_in, lost}
 use Rattle.layout.specs.Blocks.{block_at}
@@ -11,16 +11,8 @@ use Rattle.code.proofs.Losing.{found_lost}
 use Rattle.code.proofs.Repairs.{left_of, left_gone, left_same}
 use Rattle.code.proofs.block.find_lost.Goals as goal
 
-pub absorb_held-requires : goal.absorb_held-requires
-absorb_held-requires g c =
-    let s = c.args.shape.now in
-    let n = packets_are s s.positions c.args.block.now c.requires.block in
-    record {
-      width = c.requires.width;
-      sums = c.requires.sums;
-      run = rw n c.requires.block;
-      end = omega arith;
-    }
+pub absorb_held-requires-clause-run : goal.absorb_held-requires-clause-run
+absorb_held-requires-clause-run g c = rw (packets_are c.args.shape.now c.args.shape.now.positions c.args.block.now c.requires.block) c.requires.block
 
 pub returns : goal.returns
 returns g c =

@@ -1,18 +1,8 @@
-use Rattle.std.proofs.Common.{◌≡◌, ◌+◌, ◌*◌, ◌≤◌, length, refl, ap, ◌∙◌, arith, rules}
+use Rattle.std.proofs.Common.{◌≡◌, ◌+◌, ◌*◌, ◌≤◌, length, refl, ap, ◌∙◌, arith}
 use Rattle.layout.specs.Blocks.{packet_in}
 use Rattle.layout.proofs.Places.{part_ends}
 use Rattle.layout.proofs.Entries.{entry_written, entry_kept}
 use Rattle.code.proofs.block.write_packet.Goals as goal
-
-pub overflow_mul-position : goal.overflow_mul-position
-overflow_mul-position c =
-    let h = part_ends c.args.position _ c.packet-p.result refl c.packet-p.ensures.value c.requires.block c.requires.position in
-    search rules
-
-pub slice_bounds-copy_from_slice-end : goal.slice_bounds-copy_from_slice-end
-slice_bounds-copy_from_slice-end c =
-    let h = part_ends c.args.position _ c.packet-p.result refl c.packet-p.ensures.value c.requires.block c.requires.position in
-    search rules
 
 pub returns : goal.returns
 returns c =

@@ -1,19 +1,11 @@
-use Rattle.std.proofs.Common.{◌+◌, ◌*◌, ◌≤◌, length, ap, ◌∙◌, arith, rules}
+use Rattle.std.proofs.Common.{◌+◌, ◌*◌, ◌≤◌, length, ap, ◌∙◌, arith}
 use lib.Bits.{bit_xor}
 use Rattle.layout.proofs.Places.{part_ends}
 use Rattle.layout.specs.Blocks.{packet_in}
 use Rattle.code.specs.Packets.{selected}
 use Rattle.layout.proofs.Parts.{part_read, part_length}
-use Rattle.code.proofs.Rows.{rows_none, rows_more}
+use Rattle.code.proofs.Rows.{rows_more}
 use Rattle.code.proofs.packet.add_product.Goals as goal
-
-pub slice_bounds-add_selected-end : goal.slice_bounds-add_selected-end
-slice_bounds-add_selected-end c =
-    let h = part_ends c.loop-i.i c.rows-i-end.result c.words-w.result c.rows-i-end.ensures c.words-w.ensures c.requires.target c.loop-i-test.true in
-    search rules
-
-pub loop-i-init : goal.loop-i-init
-loop-i-init c = rows_none _ _ _ _ _
 
 pub loop-i-preserved : goal.loop-i-preserved
 loop-i-preserved c =
@@ -27,6 +19,3 @@ loop-i-preserved c =
     rows_more s.rows s.words c.args.columns.now c.args.source.now i v _ _ t c.add_selected.new.row width (omega arith) fits (omega arith)
     (λ k l. c.add_selected.ensures k l ∙ ap (λ u. bit_xor u (selected s.rows c.args.columns.now i (packet_in s.words c.args.source.now) k)) (part_read t i v s.words k width l))
     c.loop-i.invariant
-
-pub returns : goal.returns
-returns c = λ i k h l. c.loop-i.invariant.at i k (let e = c.rows-i-end.ensures in omega arith) l

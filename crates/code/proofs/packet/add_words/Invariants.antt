@@ -1,5 +1,9 @@
-use Rattle.code.proofs.Rows.{Added}
+use Rattle.std.proofs.Common.{◌≡◌, ℕ, ◌<◌, ◌≤◌, get_or}
+use lib.Bits.{bit_xor}
 use Rattle.code.proofs.packet.add_words.Given as goal
 
 abbrev pub invariant-loop-i : goal.invariant-loop-i
-invariant-loop-i l = Added l.i l.initial.target l.source l.target
+invariant-loop-i l = record {
+  added : (c : ℕ) → c < l.i → get_or l.target c 0 ≡ bit_xor (get_or l.initial.target c 0) (get_or l.source c 0);
+  left : (c : ℕ) → l.i ≤ c → get_or l.target c 0 ≡ get_or l.initial.target c 0;
+}

@@ -1,4 +1,4 @@
-use Rattle.std.proofs.Common.{◌≡◌, ◌+◌, ◌*◌, ◌^◌, ◌<◌, ◌≤◌, length, sym, ap, ◌∙◌, ap₂, mod-eq_of_lt, add-one, arith, rules}
+use Rattle.std.proofs.Common.{◌+◌, ◌*◌, ◌^◌, ◌<◌, ◌≤◌, length, sym, ap, ◌∙◌, ap₂, mod-eq_of_lt, add-one, arith, rules}
 use lib.Bits.{bit_xor}
 use Rattle.galois.specs.Field.{power}
 use Rattle.galois.proofs.Powers.{power_lt}
@@ -12,9 +12,7 @@ use Rattle.code.proofs.Absorbs.{absorbed_none, absorbed_more}
 use Rattle.code.proofs.sums.add_packet.Goals as goal
 
 pub slice_bounds-add_times-end : goal.slice_bounds-add_times-end
-slice_bounds-add_times-end g c =
-    let h = part_ends c.loop-sum.sum _ c.packet-p.result c.parity-sum-end.ensures c.packet-p.ensures.value c.requires.sums c.loop-sum-test.true in
-    search rules
+slice_bounds-add_times-end g c = let h = part_ends c.loop-sum.sum _ c.packet-p.result c.parity-sum-end.ensures c.packet-p.ensures.value c.requires.sums c.loop-sum-test.true in search rules
 
 pub loop-sum-init : goal.loop-sum-init
 loop-sum-init g c =
@@ -42,9 +40,3 @@ loop-sum-preserved g c =
           ∙ ap₂ (λ u b. bit_xor u (scaled (code_of s f.prod) b (packet_in s.words c.args.packet.now) i k)) (entry_read s n v t size i k h l) (mod-eq_of_lt lt ∙ is))
           c.loop-sum.invariant.1,
     )
-
-pub returns : goal.returns
-returns g c =
-    let s = c.args.shape.now in
-    let all : c.loop-sum.sum ≡ parity_of s = let e = c.parity-sum-end.ensures in let h = c.requires.first in omega arith in
-    rw all at c.loop-sum.invariant.1

@@ -9,14 +9,10 @@ use Rattle.layout.proofs.Entries.{entry_read, entry_written, entry_kept}
 use Rattle.code.proofs.solver.Solver.add_entry.Goals as goal
 
 pub slice_bounds-copy_from_slice-end : goal.slice_bounds-copy_from_slice-end
-slice_bounds-copy_from_slice-end g c =
-    let h = part_ends c.args.from _ c.packet-p.result refl c.packet-p.ensures.value c.requires.sums c.requires.from in
-    search rules
+slice_bounds-copy_from_slice-end g c = let h = part_ends c.args.from _ c.packet-p.result refl c.packet-p.ensures.value c.requires.sums c.requires.from in search rules
 
 pub slice_bounds-add_times-end : goal.slice_bounds-add_times-end
-slice_bounds-add_times-end g c =
-    let h = part_ends c.args.to _ c.packet-p.result refl c.packet-p.ensures.value c.requires.sums c.requires.to in
-    search rules
+slice_bounds-add_times-end g c = let h = part_ends c.args.to _ c.packet-p.result refl c.packet-p.ensures.value c.requires.sums c.requires.to in search rules
 
 pub returns : goal.returns
 returns g c =

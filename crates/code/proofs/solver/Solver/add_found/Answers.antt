@@ -1,4 +1,4 @@
-use Rattle.std.proofs.Common.{◌≡◌, ◌<◌, refl, ap, ◌∙◌, arith, rules}
+use Rattle.std.proofs.Common.{refl, ap, ◌∙◌, arith, rules}
 use Rattle.layout.specs.Sizes.{parity_of}
 use Rattle.layout.specs.Blocks.{packet_in}
 use Rattle.layout.proofs.Places.{part_ends}
@@ -8,8 +8,7 @@ use Rattle.code.proofs.solver.Solver.add_found.Goals as goal
 
 pub slice_bounds-copy_from_slice-end : goal.slice_bounds-copy_from_slice-end
 slice_bounds-copy_from_slice-end g c =
-    let lt : c.loop-s.s < parity_of c.args.self.now.shape.now = let k = c.args.self.now.few in let t = c.loop-s-test.true in omega arith in
-    let h = part_ends c.loop-s.s _ c.packet-p.result refl c.packet-p.ensures.value (c.loop-s.invariant.0 ∙ c.requires.sums) lt in
+    let h = part_ends c.loop-s.s (parity_of c.args.self.now.shape.now) c.packet-p.result refl c.packet-p.ensures.value (c.loop-s.invariant.0 ∙ c.requires.sums) (omega arith) in
     search rules
 
 pub loop-s-init : goal.loop-s-init
@@ -24,8 +23,3 @@ loop-s-preserved g c =
           (λ i k h l. ap (λ r. packet_in s.words r i k) c.copy_from_slice.ensures.after ∙ entry_read s n c.packet-p.result c.loop-s.sums c.packet-p.ensures.value i k h l)
           c.add_packet.ensures c.loop-s.invariant.1,
     )
-
-pub returns : goal.returns
-returns g c =
-    let all : c.loop-s.s ≡ c.args.self.now.count = omega arith in
-    rw all at c.loop-s.invariant.1

@@ -1,4 +1,4 @@
-use Rattle.std.proofs.Common.{◌≡◌, ℕ, ◌+◌, ◌-◌, ◌*◌, ◌%◌, ◌^◌, ◌<◌, ◌≤◌, length, refl, ap, ◌∙◌, ap₂, mod-lt, mod-eq_of_lt, arith, pow_pos, rules}
+use Rattle.std.proofs.Common.{◌≡◌, ◌+◌, ◌-◌, ◌*◌, ◌%◌, ◌^◌, ◌<◌, ◌≤◌, length, refl, ap, ◌∙◌, ap₂, mod-lt, mod-eq_of_lt, arith, pow_pos}
 use lib.Bits.{bit_xor}
 use Rattle.algebra.specs.Code.{scaled}
 use Rattle.algebra.specs.Laws.{gap}
@@ -10,36 +10,8 @@ use Rattle.layout.proofs.Places.{part_ends}
 use Rattle.layout.proofs.Parts.{part_length}
 use Rattle.code.specs.Solving.{node_at}
 use Rattle.layout.proofs.Entries.{word_lt, entry_read, first_read, entry_written, entry_kept}
-use Rattle.code.proofs.Stages.{laws_of}
 use Rattle.code.proofs.Backs.{Cleared, factor, gap_is, cleared_none, cleared_more, cleared_all}
 use Rattle.code.proofs.solver.Solver.backward.Goals as goal
-
-pub slice_bounds-copy_from_slice-end : goal.slice_bounds-copy_from_slice-end
-slice_bounds-copy_from_slice-end g c =
-    let lt : c.args.n < parity_of c.args.self.now.shape.now = let h = c.requires.n in let k = c.args.self.now.few in omega arith in
-    let h = part_ends c.args.n _ c.packet-p.result refl c.packet-p.ensures.value c.requires.sums lt in
-    search rules
-
-pub slice_bounds-add_times-end : goal.slice_bounds-add_times-end
-slice_bounds-add_times-end g c =
-    let lt : c.loop-j.j < parity_of c.args.self.now.shape.now = let h = c.requires.n in let k = c.args.self.now.few in let t = c.loop-j-test.true in omega arith in
-    let h = part_ends c.loop-j.j _ c.packet-p.result refl c.packet-p.ensures.value c.requires.sums lt in
-    search rules
-
-pub slice_bounds-copy_from_slice-end-2 : goal.slice_bounds-copy_from_slice-end-2
-slice_bounds-copy_from_slice-end-2 g c =
-    let lt : c.args.n < parity_of c.args.self.now.shape.now = let h = c.requires.n in let k = c.args.self.now.few in omega arith in
-    let h = part_ends c.args.n _ c.packet-p.result refl c.packet-p.ensures.value c.requires.sums lt in
-    search rules
-
-pub slice_bounds-add_words-end : goal.slice_bounds-add_words-end
-slice_bounds-add_words-end g c =
-    let lt : c.args.n < parity_of c.args.self.now.shape.now = let h = c.requires.n in let k = c.args.self.now.few in omega arith in
-    let h = part_ends c.args.n _ c.packet-p.result refl c.packet-p.ensures.value c.requires.sums lt in
-    search rules
-
-pub loop-j-init : goal.loop-j-init
-loop-j-init g c = λ e d. d
 
 pub loop-j-preserved : goal.loop-j-preserved
 unfolding theta
@@ -51,24 +23,23 @@ loop-j-preserved g c = λ e d.
     let x = c.args.self.now.nodes in
     let n = c.args.n in
     let j = c.loop-j.j in
-    let v = c.packet-p.result in
+    let p = c.packet-p.result in
     let t = c.loop-j.sums in
     let z = packet_in s.words c.copy_from_slice.new.self in
     let size = c.packet-p.ensures.value in
-    let laws = laws_of s.rows f.bits f.prod f.inv c.args.self.now.width field in
-    let ox : (k : ℕ) → node_at x k < 2 ^ s.rows = λ k. rw c.args.self.now.width (c.args.self.now.elements k) in
-    let within : j < parity_of s = let h = c.requires.n in let k = c.args.self.now.few in let l = c.loop-j-test.true in omega arith in
-    let fits : j * v + v ≤ length t = part_ends j _ v refl size (c.loop-j.auto.sums ∙ c.keep_first.auto.sums ∙ c.requires.sums) within in
-    let long = part_length t j v fits in
+    let v = c.args.self.now.solvable in
+    let within : j < parity_of s = let h = c.requires.n in let k = c.args.self.now.solvable.few in let l = c.loop-j-test.true in omega arith in
+    let fits : j * p + p ≤ length t = part_ends j _ p refl size (c.loop-j.auto.sums ∙ c.keep_first.auto.sums ∙ c.requires.sums) within in
+    let long = part_length t j p fits in
     let y = c.add_times.new.target in
     let gapped : c.gap.result % 2 ^ f.bits ≡ gap (grid_ops C f.inv) (node_at x) j (n - j) (node_at x n) =
     mod-eq_of_lt c.gap.ensures.element ∙ c.gap.ensures.value ∙ gap_is s f.prod f.inv (node_at x) j (n - j) (node_at x n) in
-    let is : c.inverse-theta.result ≡ factor s f.prod f.inv x c.args.self.now.count n z j = c.inverse-theta.ensures ∙ ap f.inv gapped in
+    let is : c.inverse-theta.result ≡ factor s f.prod f.inv x n j = c.inverse-theta.ensures ∙ ap f.inv gapped in
     let lt : c.inverse-theta.result < 2 ^ f.bits = rw c.inverse-theta.ensures (field.inverse_lt _ (mod-lt c.gap.result (pow_pos f.bits))) in
-    cleared_more s f.prod f.inv x c.args.self.now.count n z laws ox c.args.self.now.apart c.args.self.now.few c.requires.some c.requires.n j e t _ c.loop-j-test.true
-    (λ i k h l. entry_written s j v t size _ y (omega arith) fits (omega arith) i k h l ∙ c.add_times.ensures i k h l
-    ∙ ap₂ (λ a b. bit_xor a (scaled C b z i k)) (entry_read s j v t size i k h l) (mod-eq_of_lt lt ∙ is))
-    (λ μ _ q i k h l. entry_kept s j v t size _ y (omega arith) fits (omega arith) μ q i k h l)
+    cleared_more v n z c.requires.some c.requires.n j e t _ c.loop-j-test.true
+    (λ i k h l. entry_written s j p t size _ y (omega arith) fits (omega arith) i k h l ∙ c.add_times.ensures i k h l
+    ∙ ap₂ (λ a b. bit_xor a (scaled C b z i k)) (entry_read s j p t size i k h l) (mod-eq_of_lt lt ∙ is))
+    (λ μ _ q i k h l. entry_kept s j p t size _ y (omega arith) fits (omega arith) μ q i k h l)
     (c.loop-j.invariant e d)
 
 pub returns : goal.returns
@@ -78,27 +49,26 @@ returns g c =
     let C = code_of s f.prod in
     let x = c.args.self.now.nodes in
     let n = c.args.n in
-    let v = c.packet-p.result in
+    let p = c.packet-p.result in
     let e = c.args.sums.now in
     let u = c.loop-j.sums in
     let z = packet_in s.words c.copy_from_slice.new.self in
     let size = c.packet-p.ensures.value in
-    let laws = laws_of s.rows f.bits f.prod f.inv c.args.self.now.width g.met.F.Arithmetic.field in
-    let ox : (k : ℕ) → node_at x k < 2 ^ s.rows = λ k. rw c.args.self.now.width (c.args.self.now.elements k) in
-    let within : n < parity_of s = let h = c.requires.n in let k = c.args.self.now.few in omega arith in
-    let fits : n * v + v ≤ length u = part_ends n _ v refl size (c.loop-j.auto.sums ∙ c.keep_first.auto.sums ∙ c.requires.sums) within in
-    let long = part_length u n v fits in
+    let v = c.args.self.now.solvable in
+    let within : n < parity_of s = let h = c.requires.n in let k = c.args.self.now.solvable.few in omega arith in
+    let fits : n * p + p ≤ length u = part_ends n _ p refl size (c.loop-j.auto.sums ∙ c.keep_first.auto.sums ∙ c.requires.sums) within in
+    let long = part_length u n p fits in
     let y = c.add_words.new.target in
     let all : c.loop-j.j ≡ n = omega arith in
     let started : Cleared s f.prod f.inv x c.args.self.now.count n z 0 e c.keep_first.new.sums =
-    cleared_none s f.prod f.inv x c.args.self.now.count n z laws ox c.args.self.now.apart c.args.self.now.few c.requires.some c.requires.n e c.keep_first.new.sums
-    (λ i k h l. ap (λ r. packet_in s.words r i k) c.copy_from_slice.ensures.after ∙ entry_read s n v e size i k h l) (c.keep_first.ensures f.prod) in
+    cleared_none v n z c.requires.some c.requires.n e c.keep_first.new.sums
+    (λ i k h l. ap (λ r. packet_in s.words r i k) c.copy_from_slice.ensures.after ∙ entry_read s n p e size i k h l) (c.keep_first.ensures f.prod) in
     let d : Cleared s f.prod f.inv x c.args.self.now.count n z n e u = rw all at (c.loop-j.invariant e started) in
     record {
-      keeps = cleared_all s f.prod f.inv x c.args.self.now.count n z laws ox c.args.self.now.apart c.args.self.now.few c.requires.some c.requires.n e u _ d
-          (λ i k h l. entry_written s n v u size _ y (omega arith) fits (omega arith) i k h l
+      keeps = cleared_all v n z c.requires.some c.requires.n e u _ d
+          (λ i k h l. entry_written s n p u size _ y (omega arith) fits (omega arith) i k h l
           ∙ c.add_words.ensures (i * s.words + k) (let w = word_lt s i k h l in omega arith)
-          ∙ ap₂ bit_xor (entry_read s n v u size i k h l) (ap (λ r. packet_in s.words r i k) c.copy_from_slice-2.ensures.after ∙ first_read s n v u size i k h l))
-          (λ μ _ q i k h l. entry_kept s n v u size _ y (omega arith) fits (omega arith) μ q i k h l);
-      off = λ μ h k i b p q. entry_kept s n v u size _ y (omega arith) fits (omega arith) μ (λ r. let m = c.requires.n in omega arith) i b p q ∙ d.off μ h k i b p q;
+          ∙ ap₂ bit_xor (entry_read s n p u size i k h l) (ap (λ r. packet_in s.words r i k) c.copy_from_slice-2.ensures.after ∙ first_read s n p u size i k h l))
+          (λ μ _ q i k h l. entry_kept s n p u size _ y (omega arith) fits (omega arith) μ q i k h l);
+      off = λ μ h k i b a q. entry_kept s n p u size _ y (omega arith) fits (omega arith) μ (λ r. let m = c.requires.n in omega arith) i b a q ∙ d.off μ h k i b a q;
     }

@@ -1,61 +1,46 @@
-use Rattle.std.proofs.Common.{◌≡◌, ℕ, ◌+◌, ◌-◌, ◌%◌, ◌^◌, ◌<◌, refl, ◌∙◌, subst, mod-eq_of_lt, arith}
+use Rattle.std.proofs.Common.{◌≡◌, ◌+◌, ◌-◌, ◌%◌, ◌^◌, refl, ◌∙◌, subst, mod-eq_of_lt, arith}
 use mathlib.Core.Logic.Iff
 use native.Mathlib.Decide.{dec_lt}
 use Rattle.code.specs.Solving.{node_at, Stepped}
-use Rattle.code.proofs.Stages.{laws_of, stages_start, stage_starts, stage_turn, stage_ends}
+use Rattle.code.proofs.Stages.{stages_start, stage_starts, stage_turn, stage_ends}
 use Rattle.code.proofs.solver.Solver.forward.Goals as goal
 
 pub loop-j-init : goal.loop-j-init
-loop-j-init g c =
-    let f = g.F.Arithmetic in
-    let s = c.args.self.now.shape.now in
-    let laws = laws_of s.rows f.bits f.prod f.inv c.args.self.now.width g.met.F.Arithmetic.field in
-    let ox : (k : ℕ) → node_at c.args.self.now.nodes k < 2 ^ s.rows = λ k. rw c.args.self.now.width (c.args.self.now.elements k) in
-    (stages_start s f.prod f.inv laws c.args.self.now.nodes ox c.args.self.now.count c.args.sums.now, λ μ h k i b p q. refl)
+loop-j-init g c = (stages_start c.args.self.now.solvable c.args.sums.now, λ μ h k i b p q. refl)
 
 pub loop-i-init : goal.loop-i-init
-loop-i-init g c =
-    let f = g.F.Arithmetic in
-    let s = c.args.self.now.shape.now in
-    let laws = laws_of s.rows f.bits f.prod f.inv c.args.self.now.width g.met.F.Arithmetic.field in
-    let ox : (k : ℕ) → node_at c.args.self.now.nodes k < 2 ^ s.rows = λ k. rw c.args.self.now.width (c.args.self.now.elements k) in
-    (stage_starts s f.prod f.inv laws c.args.self.now.nodes ox c.args.self.now.count c.loop-j.sums (c.loop-j.j - 1) (c.args.self.now.count - c.loop-j.j) (omega arith), λ μ h k i b p q. refl)
+loop-i-init g c = (
+  stage_starts c.args.self.now.solvable c.loop-j.sums (c.loop-j.j - 1) (c.args.self.now.count - c.loop-j.j) (omega arith),
+  λ μ h k i b p q. refl,
+)
 
 pub loop-i-preserved : goal.loop-i-preserved
 loop-i-preserved g c =
     let f = g.F.Arithmetic in
+    let v = c.args.self.now.solvable in
     let s = c.args.self.now.shape.now in
     let x = c.args.self.now.nodes in
     let j = c.loop-j.j in
     let i = c.loop-i.i in
-    let laws = laws_of s.rows f.bits f.prod f.inv c.args.self.now.width g.met.F.Arithmetic.field in
-    let ox : (k : ℕ) → node_at x k < 2 ^ s.rows = λ k. rw c.args.self.now.width (c.args.self.now.elements k) in
-    let node : node_at x (j - 1) % 2 ^ f.bits ≡ node_at x (j - 1) = mod-eq_of_lt (c.args.self.now.elements (j - 1)) in
+    let node : node_at x (j - 1) % 2 ^ f.bits ≡ node_at x (j - 1) = mod-eq_of_lt (rw (← c.args.self.now.width) (v.elements (j - 1))) in
     let d : Stepped s f.prod (node_at x (j - 1)) (i - 1) (i - 1 - 1) c.loop-i.sums c.add_entry.new.sums =
     subst (λ a. Stepped s f.prod a (i - 1) (i - 1 - 1) c.loop-i.sums c.add_entry.new.sums) node c.add_entry.ensures in (
-      λ I. Iff.trans (c.loop-i.invariant.0 I) (stage_turn s f.prod f.inv laws x ox c.args.self.now.count (j - 1) (i - 1) (i - 1 - 1) (i - j) (i - 1 - j) (omega arith) (omega arith) (omega arith) (omega arith) c.args.self.now.few _ _ d I),
+      λ I. Iff.trans (c.loop-i.invariant.0 I) (stage_turn v (j - 1) (i - 1) (i - 1 - 1) (i - j) (i - 1 - j) (omega arith) (omega arith) (omega arith) (omega arith) _ _ d I),
       λ μ h k a b p q. d.off μ k (λ z. omega arith) a b p q ∙ c.loop-i.invariant.1 μ h k a b p q,
     )
 
 pub loop-j-preserved : goal.loop-j-preserved
-loop-j-preserved g c =
-    let f = g.F.Arithmetic in
-    let s = c.args.self.now.shape.now in
-    let laws = laws_of s.rows f.bits f.prod f.inv c.args.self.now.width g.met.F.Arithmetic.field in
-    let ox : (k : ℕ) → node_at c.args.self.now.nodes k < 2 ^ s.rows = λ k. rw c.args.self.now.width (c.args.self.now.elements k) in (
-      λ I. Iff.trans (c.loop-j.invariant.0 I) (Iff.trans (c.loop-i.invariant.0 I)
-          (stage_ends s f.prod f.inv laws c.args.self.now.nodes ox c.args.self.now.count c.loop-i.sums (c.loop-j.j - 1) (c.loop-i.i - c.loop-j.j) (c.loop-j.j + 1 - 1) (omega arith) (omega arith) I)),
-      λ μ h k a b p q. c.loop-i.invariant.1 μ h k a b p q ∙ c.loop-j.invariant.1 μ h k a b p q,
-    )
+loop-j-preserved g c = (
+  λ I. Iff.trans (c.loop-j.invariant.0 I) (Iff.trans (c.loop-i.invariant.0 I)
+      (stage_ends c.args.self.now.solvable c.loop-i.sums (c.loop-j.j - 1) (c.loop-i.i - c.loop-j.j) (c.loop-j.j + 1 - 1) (omega arith) (omega arith) I)),
+  λ μ h k a b p q. c.loop-i.invariant.1 μ h k a b p q ∙ c.loop-j.invariant.1 μ h k a b p q,
+)
 
-pub returns : goal.returns
-returns g c = record {
-  keeps = elim (dec_lt 0 c.args.self.now.count) [
-    | yes some ↦
-        let end = c.loop-j.auto.j-end some in
-        let e : c.args.self.now.count - 1 ≡ c.loop-j.j - 1 = omega arith in
-        rw e c.loop-j.invariant.0
-    | no none ↦ λ I. (λ _ m l. absurd (omega arith), λ _ m l. absurd (omega arith))
-  ];
-  off = c.loop-j.invariant.1;
-}
+pub returns-clause-keeps : goal.returns-clause-keeps
+returns-clause-keeps g c = elim (dec_lt 0 c.args.self.now.count) [
+  | yes some ↦
+      let end = c.loop-j.auto.j-end some in
+      let e : c.args.self.now.count - 1 ≡ c.loop-j.j - 1 = omega arith in
+      rw e c.loop-j.invariant.0
+  | no none ↦ λ I. (λ _ m l. absurd (omega arith), λ _ m l. absurd (omega arith))
+]

@@ -1,4 +1,4 @@
-use Rattle.std.proofs.Common.{◌≡◌, ℕ, ◌+◌, ◌-◌, ◌%◌, ◌^◌, ◌<◌, List, length, drop, get_or, sym, refl, ap, ◌∙◌, ap₂, add-one, mod-eq_of_lt, arith, length-drop}
+use Rattle.std.proofs.Common.{◌≡◌, ℕ, ◌+◌, ◌-◌, ◌%◌, ◌^◌, ◌<◌, List, length, drop, get_or, sym, ap, ◌∙◌, ap₂, add-one, mod-eq_of_lt, arith, length-drop}
 use lib.Bits.{bit_xor, xor_lt}
 use borrow.Rule.Slice.PartMut.{mid_of}
 use Rattle.std.proofs.lemmas.List.{get_or-take, get_or-drop, length-take-le}
@@ -8,10 +8,6 @@ use Rattle.code.proofs.solver.Solver.gap.Goals as goal
 
 mid_length : (nodes : List ℕ) (j n : ℕ) → length nodes ≡ 32 → n < 32 → length (mid_of j (n - j) nodes) ≡ n - j
 mid_length nodes j n long lt = length-take-le (n - j) (drop j nodes) (let e = length-drop j nodes in omega arith)
-
-pub loop-node-init : goal.loop-node-init
-unfolding gap_of
-loop-node-init g c = refl
 
 pub loop-node-preserved : goal.loop-node-preserved
 unfolding gap_of
@@ -23,21 +19,17 @@ loop-node-preserved g c =
     let j = c.args.j in
     let k = c.loop-node.node-index in
     let y = x c.args.n in
-    let ox = c.args.self.now.elements in
-    let whole = mid_length nodes j c.args.n (omega arith) (let w = c.requires.within in let m = c.args.self.now.few in let k = c.args.self.now.shape.now.counts.2 in omega arith) in
+    let ox : (k : ℕ) → x k < 2 ^ f.bits = λ k. rw (← c.args.self.now.width) (c.args.self.now.solvable.elements k) in
+    let whole = mid_length nodes j c.args.n (omega arith) (let w = c.requires.within in let m = c.args.self.now.solvable.few in let k = c.args.self.now.shape.now.counts.2 in omega arith) in
     let here : get_or (mid_of j (c.args.n - j) nodes) k 0 ≡ x (j + k) = get_or-take (c.args.n - j) _ k 0 (omega arith) ∙ get_or-drop j nodes k 0 in
     let lt : c.loop-node.product < 2 ^ f.bits = rw c.loop-node.invariant (gap_lt laws x ox j k y (ox c.args.n)) in
     c.product-product.ensures
     ∙ ap₂ f.prod (ap (λ z. bit_xor y z % 2 ^ f.bits) here ∙ mod-eq_of_lt (xor_lt f.bits y (x (j + k)) (ox c.args.n) (ox (j + k)))) (mod-eq_of_lt lt ∙ c.loop-node.invariant)
     ∙ sym (ap (λ z. gap_of f.prod x j z y) (add-one k))
 
-pub returns : goal.returns
-returns g c =
+pub returns-clause-element : goal.returns-clause-element
+returns-clause-element g c =
     let f = g.F.Arithmetic in
     let x = node_at c.args.self.now.nodes in
-    let ox = c.args.self.now.elements in
-    let all : c.loop-node.node-index ≡ c.args.n - c.args.j = let whole = mid_length c.args.self.now.nodes c.args.j c.args.n (omega arith) (let w = c.requires.within in let m = c.args.self.now.few in let k = c.args.self.now.shape.now.counts.2 in omega arith) in omega arith in
-    record {
-      value = rw all at c.loop-node.invariant;
-      element = rw c.loop-node.invariant (gap_lt g.met.F.Arithmetic.field x ox c.args.j c.loop-node.node-index (x c.args.n) (ox c.args.n));
-    }
+    let ox : (k : ℕ) → x k < 2 ^ f.bits = λ k. rw (← c.args.self.now.width) (c.args.self.now.solvable.elements k) in
+    rw c.loop-node.invariant (gap_lt g.met.F.Arithmetic.field x ox c.args.j c.loop-node.node-index (x c.args.n) (ox c.args.n))

@@ -1,4 +1,4 @@
-use Rattle.std.proofs.Common.{◌≡◌, ◌^◌, ◌<◌, ◌≤◌, length, get_or, set, sym, refl, ap, ◌∙◌, ap₂, mod-eq_of_lt, arith, length-set, get_or-set_other, get_or-set_same, pow_mono, pow_pos}
+use Rattle.std.proofs.Common.{◌≡◌, ◌<◌, length, get_or, set, sym, refl, ap, ◌∙◌, ap₂, mod-eq_of_lt, arith, length-set, get_or-set_other, get_or-set_same, pow_pos}
 use native.Mathlib.Decide.{ℕ_discrete, dec_lt}
 use Rattle.galois.specs.Field.{power}
 use Rattle.galois.proofs.Powers.{two_lt, power_lt}
@@ -7,14 +7,6 @@ use Rattle.layout.proofs.Parts.{get_or_zeros}
 use Rattle.code.proofs.Stages.{laws_of}
 use Rattle.code.proofs.Rebuilds.{lost_apart}
 use Rattle.code.proofs.solver.Solver.new.Goals as goal
-
-pub overflow_cast-p : goal.overflow_cast-p
-overflow_cast-p g c =
-    let s = c.args.shape.now in
-    let top : 2 ^ s.rows ≤ 2 ^ 10 = pow_mono s.field.1 in
-    let h = s.length in
-    let lt : c.loop-s.s < c.args.losses.now.len = let e = c.positions-p-items.ensures.len in let h = c.loop-s-test.true in omega arith in
-    omega (arith, c.positions-p-items.ensures.places c.loop-s.s lt, c.requires.below c.loop-s.s lt)
 
 pub loop-s-init : goal.loop-s-init
 loop-s-init g c = (refl, λ k h. absurd (omega arith), λ k h. get_or_zeros 32 k)
@@ -41,21 +33,18 @@ invariant_of-result g c =
     let f = g.F.Arithmetic in
     let s = c.args.shape.now in
     let l = c.args.losses.now in
-    let field = g.met.F.Arithmetic.field in
-    let laws = laws_of s.rows f.bits f.prod f.inv c.requires.width field in
+    let laws = laws_of s.rows f.bits f.prod f.inv c.requires.width g.met.F.Arithmetic.field in
     let len = c.positions.ensures.len in
     let all : c.loop-s.s ≡ l.len = let e = c.positions-p-items.ensures.len in omega arith in
     record {
       width = c.requires.width;
-      few = let k = c.requires.few in omega arith;
-      elements = λ k. elim (dec_lt k c.loop-s.s) [
-        | yes h ↦ rw (c.loop-s.invariant.1 k h) (power_lt field 2 (lost l k) (two_lt field))
-        | no h ↦ rw (c.loop-s.invariant.2 k (omega arith)) (pow_pos f.bits)
-      ];
-      apart = rw len (lost_apart s f.prod f.inv laws l c.requires.below c.loop-s.nodes (λ k h. c.loop-s.invariant.1 k (omega arith)));
+      solvable = record {
+        laws = laws;
+        few = let k = c.requires.few in omega arith;
+        elements = λ k. elim (dec_lt k c.loop-s.s) [
+          | yes h ↦ rw (c.loop-s.invariant.1 k h) (power_lt laws 2 (lost l k) (two_lt laws))
+          | no h ↦ rw (c.loop-s.invariant.2 k (omega arith)) (pow_pos s.rows)
+        ];
+        apart = rw len (lost_apart s f.prod f.inv laws l c.requires.below c.loop-s.nodes (λ k h. c.loop-s.invariant.1 k (omega arith)));
+      };
     }
-
-pub returns : goal.returns
-returns g c =
-    let all : c.loop-s.s ≡ c.args.losses.now.len = let e = c.positions-p-items.ensures.len in omega arith in
-    record { shape = refl; count = c.positions.ensures.len; at = λ k h. c.loop-s.invariant.1 k (omega arith) }
