@@ -13,7 +13,9 @@ use layout::losses::LossList;
 use layout::shape::Shape;
 use std::marker::PhantomData;
 
-// The lost packets of a block, to be found from its sums: the node α^p of each lost position p, in the first `count` places.
+// The lost packets of a block, to be found from its sums: the node α^p of each lost position p, in the first `count` places
+// (a board has no heap). The sums and a packet of scratch are lent to each step: a solver that held them would have to promise
+// at each step that it holds the same runs still.
 #[derive(Drop)]
 pub(crate) struct Solver<'a, F: Arithmetic> {
     shape: &'a Shape,
@@ -135,6 +137,7 @@ impl<'a, F: Arithmetic> Solver<'a, F> {
         ensures off { Untouched self.now.shape.now F.Arithmetic.prod self.now.count sums.old sums.new }
     {
         self.forward(sums, scratch);
+        // By number: each step finds packet n and takes it out of the sums before it.
         for n in (1..self.count).rev() {
             self.backward(n, sums, scratch);
         }

@@ -16,7 +16,8 @@ mod bits;
 #[cfg(test)]
 mod tests;
 
-// The kinds of header words, by their numbers.
+// The kinds of header words, by their numbers: a word of any other kind is refused whole, so none is made from a number.
+#[derive(Clone, Copy, PartialEq, Eq, Debug)]
 enum Kind {
     Shape = 1,
     // The second word of a shape frame.
