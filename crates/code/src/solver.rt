@@ -47,7 +47,8 @@ impl<'a, F: Arithmetic> Solver<'a, F> {
         ensures at { (s : ℕ) → s < losses.now.len → node_at result.nodes s ≡ power F.Arithmetic.prod 2 (lost losses.now s) }
     {
         let mut nodes = [0; 32];
-        // By index: of an array that `iter_mut().zip(..)` wrote to, nothing is known afterwards.
+        // By index: of an array that `iter_mut().zip(..)` wrote to, nothing is known afterwards; and by `from_fn` every place would
+        // have to ask whether there is a position for it.
         for (s, p) in losses.positions().iter().enumerate() {
             nodes[s] = raise::<F>(2, *p as u32);
         }

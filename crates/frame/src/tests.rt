@@ -17,7 +17,7 @@ fn a_shape_frame_there_and_back(rt: HostRuntime) {
     let mut run = [0; 2];
     assert_eq!(rt; frame.length(), 2);
     assert_eq!(rt; frame.write(&mut run), Ok(()));
-    assert!(rt; run[0] == 0x14003001 && run[1] == 0x20010001);
+    assert!(rt; run == [0x14003001, 0x20010001]);
     assert_eq!(rt; Frame::try_from(&run[..]), Ok(frame));
 }
 
@@ -31,7 +31,7 @@ fn a_packet_frame_there_and_back(rt: HostRuntime) {
     let mut run = [0; 3];
     assert_eq!(rt; frame.length(), 3);
     assert_eq!(rt; frame.write(&mut run), Ok(()));
-    assert!(rt; run[0] == 0x30000002 && run[1] == 7 && run[2] == 8);
+    assert!(rt; run == [0x30000002, 7, 8]);
     assert_eq!(rt; Frame::try_from(&run[..]), Ok(frame));
 }
 
@@ -75,5 +75,5 @@ fn what_cannot_be_written_leaves_the_run(rt: HostRuntime) {
         payload: &[],
     };
     assert_eq!(rt; short.write(&mut run), Err(Refusal::WrongRun { place: 0 }));
-    assert!(rt; run[0] == 5 && run[1] == 6);
+    assert!(rt; run == [5, 6]);
 }

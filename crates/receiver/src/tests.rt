@@ -51,7 +51,7 @@ fn holds<S: SlotStore>(rt: &impl Abort, receiver: &Receiver<Nibble, S>) {
     let mut run = [0; 4];
     assert_eq!(rt; receiver.fetch(0, 1, &mut run), Err(Refusal::SlotEmpty));
     assert_eq!(rt; receiver.fetch(0, 2, &mut run), Ok(()));
-    assert!(rt; run[0] == 7 && run[1] == 8 && run[2] == 9 && run[3] == 10);
+    assert!(rt; run == [7, 8, 9, 10]);
 }
 
 // Whether frames and packets go their ways over a store that has room for the block.

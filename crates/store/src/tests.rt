@@ -33,7 +33,7 @@ fn keeps<S: SlotStore>(rt: &impl Abort, store: &mut S) {
     let mut run = [0; 4];
     assert_eq!(rt; store.get(slot(0, 2), &mut run), Err(Refusal::SlotEmpty));
     assert_eq!(rt; store.get(slot(0, 1), &mut run), Ok(()));
-    assert!(rt; run[0] == 7 && run[1] == 8 && run[2] == 9 && run[3] == 10);
+    assert!(rt; run == [7, 8, 9, 10]);
 }
 
 #[test]
