@@ -1,10 +1,10 @@
 -- A run of equal parts, read by words, of which one part is written.
-use Rattle.std.proofs.Common.{◌≡◌, ℕ, zero, suc, ◌+◌, ◌-◌, ◌*◌, ◌/◌, ◌<◌, ◌≤◌, List, ◌++◌, length, get_or, take, drop, replicate, sym, refl, ap, ◌∙◌, inl, inr, arith}
+use Rattle.std.proofs.Common.{◌≡◌, ℕ, zero, suc, ◌+◌, ◌-◌, ◌*◌, ◌/◌, ◌<◌, ◌≤◌, List, length, get_or, replicate, sym, refl, ap, ◌∙◌, inl, inr, arith, rules}
 use borrow.Rule.Slice.PartMut.{put_mid}
 use Rattle.std.specs.List.{between}
 use Rattle.std.proofs.lemmas.Nat.{div-mul-add}
 use Rattle.std.proofs.lemmas.List.Edits.{get_or-between, length-between}
-use Rattle.std.proofs.lemmas.List.{length-take-le, get_or-take, get_or-drop, get_or_append_left, get_or-append_right}
+use Rattle.std.proofs.lemmas.List.{places}
 use Rattle.std.proofs.lemmas.Bool.{cases_lt}
 
 -- a place names its part
@@ -12,26 +12,17 @@ pub part_of : (i k w c d : ℕ) → c < w → d < w → i * w + c ≡ k * w + d 
 part_of i k w c d h l e = sym (div-mul-add i w c h) ∙ ap (λ u. u / w) e ∙ div-mul-add k w d l
 
 module _ (a k : ℕ) (xs ys : List ℕ) (within : a + k ≤ length xs) (size : length ys ≡ k) where
-  front : length (take a xs) ≡ a
-  front = length-take-le a xs (omega arith)
-
   -- the words of the part are those written
   pub written : (p : ℕ) → p < k → get_or (put_mid a k xs ys) (a + p) 0 ≡ get_or ys p 0
-  written p h =
-      get_or-append_right (take a xs) (ys ++ drop k (drop a xs)) a (a + p) 0 front (omega arith)
-      ∙ ap (λ n. get_or (ys ++ drop k (drop a xs)) n 0) (let e : a + p - a ≡ p = omega arith in e)
-      ∙ get_or_append_left ys (drop k (drop a xs)) 0 p (omega arith)
+  written p h = search (rules, places)
 
   -- the others stay
   pub kept : (p : ℕ) → ((j : ℕ) → j < k → p ≡ a + j → ⊥) → get_or (put_mid a k xs ys) p 0 ≡ get_or xs p 0
   kept p off = elim (cases_lt p a) [
-    | inl h ↦ get_or_append_left (take a xs) _ 0 p (omega (arith, front)) ∙ get_or-take a xs p 0 h
+    | inl h ↦ search (rules, places)
     | inr h ↦
         let past : a + k ≤ p = elim (cases_lt p (a + k)) [ inl l ↦ absurd (off (p - a) (omega arith) (omega arith)) | inr l ↦ l ] in
-        get_or-append_right (take a xs) (ys ++ drop k (drop a xs)) a p 0 front h
-        ∙ get_or-append_right ys (drop k (drop a xs)) k (p - a) 0 size (omega arith)
-        ∙ get_or-drop k (drop a xs) (p - a - k) 0 ∙ get_or-drop a xs (k + (p - a - k)) 0
-        ∙ ap (λ n. get_or xs n 0) (omega arith)
+        search (rules, places)
   ]
 
 -- part i of the parts of w words is written
