@@ -21,6 +21,8 @@ use store::nor::NorStore;
 use store::slots::{Format, Slot};
 use store::transposed::Transposed;
 
+const USAGE: &str = "usage: joint IMAGE [POSITIONS SOURCES WORDS]";
+
 // What is asked for on the command line.
 #[derive(Drop)]
 struct Job {
@@ -43,13 +45,13 @@ fn asked(rt: &HostRuntime) -> anyhow::Result<Job> {
     let mut args = env::args(rt)?;
     let _ = args.next();
     let Some(path) = args.next() else {
-        return Err(anyhow!("usage: joint IMAGE [POSITIONS SOURCES WORDS]"));
+        return Err(anyhow!(USAGE));
     };
     let positions = number(&mut args, 20)?;
     let sources = number(&mut args, 16)?;
     let words = number(&mut args, 4)?;
     if args.next().is_some() {
-        return Err(anyhow!("usage: joint IMAGE [POSITIONS SOURCES WORDS]"));
+        return Err(anyhow!(USAGE));
     }
     Ok(Job {
         path,
@@ -111,21 +113,23 @@ fn at(block: usize, position: usize) -> Slot {
     }
 }
 
-// One board: its name, its link, the store that keeps its packets, and how it fared.
+// One board: its name, its link, the shape of what it receives, the store that keeps its packets, and how it fared.
 #[derive(Drop)]
 struct Board<S> {
     name: &'static str,
     link: Link,
+    shape: Shape,
     store: S,
     restored: usize,
     same: bool,
 }
 
 impl<S: SlotStore + Drop> Board<S> {
-    fn new(name: &'static str, seed: u32, store: S) -> Board<S> {
+    fn new(name: &'static str, seed: u32, shape: Shape, store: S) -> Board<S> {
         Board {
             name,
             link: Link { seed },
+            shape,
             store,
             restored: 0,
             same: true,
@@ -133,15 +137,9 @@ impl<S: SlotStore + Drop> Board<S> {
     }
 
     // Keeps the packets of a block that arrive.
-    fn take(
-        &mut self,
-        heap: Global,
-        shape: &Shape,
-        block: usize,
-        sent: &[u32],
-    ) -> anyhow::Result<()> {
-        let lost = self.link.lost(heap, shape)?;
-        for (position, packet) in sent.chunks(shape.packet()).enumerate() {
+    fn take(&mut self, heap: Global, block: usize, sent: &[u32]) -> anyhow::Result<()> {
+        let lost = self.link.lost(heap, &self.shape)?;
+        for (position, packet) in sent.chunks(self.shape.packet()).enumerate() {
             if !lost.contains(&position) {
                 self.store.put(at(block, position), packet)?;
             }
@@ -150,16 +148,11 @@ impl<S: SlotStore + Drop> Board<S> {
     }
 
     // The packets that the store holds of a block, zeros for the others, and the positions of those.
-    fn held(
-        &self,
-        heap: Global,
-        shape: &Shape,
-        block: usize,
-    ) -> anyhow::Result<(Vec<u32>, Vec<usize>)> {
+    fn held(&self, heap: Global, block: usize) -> anyhow::Result<(Vec<u32>, Vec<usize>)> {
         let mut words = Vec::new(heap);
         let mut missing = Vec::new(heap);
-        for position in 0..shape.positions() {
-            let mut packet = vec![in heap; 0; shape.packet()]?;
+        for position in 0..self.shape.positions() {
+            let mut packet = vec![in heap; 0; self.shape.packet()]?;
             if self.store.held(at(block, position))? {
                 self.store.get(at(block, position), &mut packet)?;
             } else {
@@ -171,18 +164,13 @@ impl<S: SlotStore + Drop> Board<S> {
     }
 
     // Restores the missing packets of a block, with the arithmetic of this board's make.
-    fn restore<F: Arithmetic>(
-        &mut self,
-        rt: &HostRuntime,
-        shape: &Shape,
-        block: usize,
-    ) -> anyhow::Result<()> {
+    fn restore<F: Arithmetic>(&mut self, rt: &HostRuntime, block: usize) -> anyhow::Result<()> {
         let heap = rt.alloc();
-        let (mut words, missing) = self.held(heap, shape, block)?;
-        let mut work = vec![in heap; 0; (shape.parity() + 1) * shape.packet()]?;
-        let losses = LossList::new(shape, &missing)?;
-        repair::<F>(shape, &mut words, &losses, &mut work)?;
-        for (position, packet) in words.as_slice().chunks(shape.packet()).enumerate() {
+        let (mut words, missing) = self.held(heap, block)?;
+        let mut work = vec![in heap; 0; (self.shape.parity() + 1) * self.shape.packet()]?;
+        let losses = LossList::new(&self.shape, &missing)?;
+        repair::<F>(&self.shape, &mut words, &losses, &mut work)?;
+        for (position, packet) in words.as_slice().chunks(self.shape.packet()).enumerate() {
             if missing.contains(&position) {
                 self.store.put(at(block, position), packet)?;
             }
@@ -194,14 +182,8 @@ impl<S: SlotStore + Drop> Board<S> {
     }
 
     // Compares what the store holds of a block with what was sent.
-    fn compare(
-        &mut self,
-        heap: Global,
-        shape: &Shape,
-        block: usize,
-        sent: &[u32],
-    ) -> anyhow::Result<()> {
-        let (words, _missing) = self.held(heap, shape, block)?;
+    fn compare(&mut self, heap: Global, block: usize, sent: &[u32]) -> anyhow::Result<()> {
+        let (words, _missing) = self.held(heap, block)?;
         self.same = self.same && words.as_slice() == sent;
         Ok(())
     }
@@ -260,12 +242,12 @@ fn broadcast<S: SlotStore + Drop, T: SlotStore + Drop>(
     let heap = rt.alloc();
     for (block, bytes) in image.chunks(block_bytes(shape)).enumerate() {
         let sent = sent_block(heap, shape, bytes)?;
-        stepped.take(heap, shape, block, &sent)?;
-        tabled.take(heap, shape, block, &sent)?;
-        stepped.restore::<SteppedOctet>(rt, shape, block)?;
-        tabled.restore::<TabledOctet>(rt, shape, block)?;
-        stepped.compare(heap, shape, block, &sent)?;
-        tabled.compare(heap, shape, block, &sent)?;
+        stepped.take(heap, block, &sent)?;
+        tabled.take(heap, block, &sent)?;
+        stepped.restore::<SteppedOctet>(rt, block)?;
+        tabled.restore::<TabledOctet>(rt, block)?;
+        stepped.compare(heap, block, &sent)?;
+        tabled.compare(heap, block, &sent)?;
     }
     stepped.report(rt)?;
     tabled.report(rt)
@@ -296,8 +278,13 @@ fn run(rt: &HostRuntime) -> anyhow::Result<()> {
     let slots = blocks * positions * (packet + 1);
     let mut memory = vec![in heap; 0; slots]?;
     let mut flash = vec![in heap; 0; slots + 1]?;
-    let mut stepped = Board::new("stepped", 0x2545_F491, MemoryStore::new(&mut memory));
-    let mut tabled = Board::new("tabled", 0x9E37_79B9, Transposed(NorStore::new(&mut flash)));
+    let mut stepped = Board::new("stepped", 0x2545_F491, shape, MemoryStore::new(&mut memory));
+    let mut tabled = Board::new(
+        "tabled",
+        0x9E37_79B9,
+        shape,
+        Transposed(NorStore::new(&mut flash)),
+    );
     let format = Format {
         rows: blocks,
         columns: positions,
