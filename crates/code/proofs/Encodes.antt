@@ -1,41 +1,22 @@
 -- Parity packets are those that are found where all parity positions are lost.
-use Rattle.std.proofs.Common.{◌≡◌, ℕ, ◌+◌, ◌-◌, ◌*◌, ◌^◌, ◌<◌, ◌≤◌, true, false, cond, ltb, List, ◌++◌, get_or, None, Ok, Err, Result, sym, refl, ap, ◌∙◌, subst, ap₂, inl, inr, mul-le-mul_right, add-mul, arith, length-append}
+use Rattle.std.proofs.Common.{◌≡◌, ℕ, ◌+◌, ◌-◌, ◌*◌, ◌^◌, ◌<◌, ◌≤◌, true, false, cond, ltb, List, ◌++◌, get_or, Ok, Err, Result, sym, refl, ap, ◌∙◌, subst, ap₂, add-mul, arith, length-append}
 use native.Mathlib.Decide.{dec_lt}
-use Rattle.std.proofs.lemmas.List.{get_or_append_left, get_or-append_right}
 use Rattle.refusal.specs.declared.Refusal.{Refusal}
-use Rattle.refusal.specs.Numbers.{said}
 use Rattle.algebra.specs.Code.{Block, among}
 use Rattle.algebra.proofs.Marks.{true_false, among_at, among_off}
 use Rattle.layout.specs.declared.shape.Shape.{Shape}
 use Rattle.layout.specs.declared.losses.LossList.{LossList}
 use Rattle.layout.specs.Sizes.{parity_of, packet_of, Packets, lost, LostBelow}
 use Rattle.layout.specs.Blocks.{block_at, ZeroRun}
-use Rattle.layout.proofs.Entries.{word_lt}
 use Rattle.layout.proofs.Blocks.{same_runs, row_lt, column_lt, place}
-use Rattle.layout.proofs.Passes.{passed}
 use Rattle.code.specs.Sums.{SumsTo}
-use Rattle.code.specs.Rebuilt.{rebuild_refusal, AfterRebuild}
+use Rattle.code.specs.Rebuilt.{Solved}
 use Rattle.code.proofs.Absorbs.{sums_zero}
 use Rattle.code.specs.Lost.{AgreeOff, LostPackets}
 use Rattle.code.specs.Calls.{Encoded}
 use Rattle.code.specs.Held.{Reads, Summed, Filled}
+use Rattle.code.proofs.Joined.{joined_low, joined_high}
 use Rattle.code.proofs.Losing.{lost_packets}
-
-module _ (s : Shape) (parity source : List ℕ) (long : Packets s (parity_of s) parity) where
-  -- parity and source as one block
-  pub joined_low : (q i c : ℕ) → q < parity_of s → i < s.rows → c < s.words → block_at s (parity ++ source) q i c ≡ block_at s parity q i c
-  joined_low q i c h p r =
-      let w = word_lt s i c p r in
-      get_or_append_left parity source 0 (q * packet_of s + (i * s.words + c)) (omega (arith, mul-le-mul_right (packet_of s) h, long))
-
-  pub joined_high : (q i c : ℕ) → parity_of s ≤ q → block_at s (parity ++ source) q i c ≡ block_at s source (q - parity_of s) i c
-  joined_high q i c h =
-      let k = i * s.words + c in
-      let n = parity_of s in
-      let le : n * packet_of s ≤ q * packet_of s = mul-le-mul_right (packet_of s) h in
-      let whole : n + (q - n) ≡ q = omega arith in
-      let e : q * packet_of s + k - n * packet_of s ≡ (q - n) * packet_of s + k = omega (arith, le, ap (λ m. m * packet_of s) whole, add-mul n (q - n) (packet_of s)) in
-      get_or-append_right parity source (n * packet_of s) (q * packet_of s + k) 0 long (omega arith) ∙ ap (λ m. get_or source m 0) e
 
 -- the block with zeros for parity
 unfoldable pub source_of : Shape → List ℕ → Block
@@ -70,7 +51,7 @@ module _ (s : Shape) (prod : ℕ → ℕ → ℕ) (l : LossList) (count : l.len 
     gone = λ j h f. true_false (among (lost l) l.len (parity_of s + j)) f (high_held j);
   }
 
-  pub source_sums : (e S : List ℕ) → ZeroRun e → Summed s prod l (parity_of s) s.sources source e S (Ok tt) → SumsTo s prod (source_of s source) s.positions S
+  pub source_sums : (e S : List ℕ) → ZeroRun e → Summed s prod l (parity_of s) s.sources source e S → SumsTo s prod (source_of s source) s.positions S
   source_sums e S none summed =
       let all : parity_of s + s.sources ≡ s.positions = let k = s.counts in omega arith in
       subst (λ n. SumsTo s prod (source_of s source) n S) all (summed (source_of s source) source_reads (sums_zero s prod (source_of s source) (parity_of s) e none (λ q h i c _ _. source_low q i c h)))
@@ -101,14 +82,12 @@ module _ (s : Shape) (prod : ℕ → ℕ → ℕ) (l : LossList) (count : l.len 
   }
 
   -- what rebuild makes of the sums of the source packets: all sums are used, so none can contradict them
-  pub filled : (bits : ℕ) (S S₁ scratch scratch' : List ℕ) → SumsTo s prod (source_of s source) s.positions S → rebuild_refusal bits s l S scratch ≡ None
-      → Packets s (parity_of s) S₁ → ((k : ℕ) → get_or S₁ k 0 < 2 ^ 32) → ((k : ℕ) → get_or source k 0 < 2 ^ 32)
-      → (r : Result (Unit {0}) Refusal) → AfterRebuild s prod l bits S S₁ scratch scratch' r → Filled s prod source S₁ r
-  filled bits S S₁ scratch scratch' are pass size fits fit (Ok u) a =
-      encoded S₁ (lost_packets s prod l parity_below (omega arith) (source_of s source) (source_of s source) (λ q h f i c p r. refl) (λ k h i c p r. source_low (lost l k) i c (let e = ids k h in omega arith)) S are S₁ a.solved) size fits fit
-  filled bits S S₁ scratch scratch' are pass size fits fit (Err e) (inl a) = passed _ (said e) pass (sym a.refusal)
-  filled bits S S₁ scratch scratch' are pass size fits fit (Err e) (inr a) =
-      let u = a.solved.unmatched in
-      let i = row_lt s a.solved.word u.word_lt in
-      let c = column_lt s a.solved.word in
-      u.here _ _ i c (place s a.solved.word) (u.found.has a.solved.sum (let k = u.sum_lt in omega arith) _ _ i c)
+  pub filled : (S S₁ : List ℕ) → SumsTo s prod (source_of s source) s.positions S → Packets s (parity_of s) S₁ → ((k : ℕ) → get_or S₁ k 0 < 2 ^ 32) → ((k : ℕ) → get_or source k 0 < 2 ^ 32)
+      → (r : Result (Unit {0}) Refusal) → Solved s prod l S S₁ r → Filled s prod source S₁ r
+  filled S S₁ are size fits fit (Ok u) a =
+      encoded S₁ (lost_packets s prod l parity_below (omega arith) (source_of s source) (source_of s source) (λ q h f i c p r. refl) (λ k h i c p r. source_low (lost l k) i c (let e = ids k h in omega arith)) S are S₁ a) size fits fit
+  filled S S₁ are size fits fit (Err e) a =
+      let u = a.unmatched in
+      let i = row_lt s a.word u.word_lt in
+      let c = column_lt s a.word in
+      u.here _ _ i c (place s a.word) (u.found.has a.sum (let k = u.sum_lt in omega arith) _ _ i c)

@@ -1,5 +1,5 @@
 -- Packets read from a run one after another.
-use Rattle.std.proofs.Common.{◌≡◌, ℕ, ◌+◌, true, false, List, Ok, sym, ap, ◌∙◌, subst, zero-add, arith}
+use Rattle.std.proofs.Common.{◌≡◌, ℕ, ◌+◌, true, false, List, sym, ap, ◌∙◌, subst, zero-add, arith}
 use Rattle.algebra.specs.Code.{Packet, Block, SamePacket, among}
 use Rattle.layout.specs.declared.shape.Shape.{Shape}
 use Rattle.layout.specs.declared.losses.LossList.{LossList}
@@ -10,20 +10,20 @@ use Rattle.code.proofs.Absorbs.{sums_held, sums_lost}
 use Rattle.code.specs.Held.{Reads, Summed}
 use Rattle.code.proofs.Repairs.{left_of, left_gone, left_same}
 
-module _ (s : Shape) (prod : ℕ → ℕ → ℕ) (l : LossList) (start n : ℕ) (run e t : List ℕ) (d : Summed s prod l start n run e t (Ok tt)) where
+module _ (s : Shape) (prod : ℕ → ℕ → ℕ) (l : LossList) (start n : ℕ) (run e t : List ℕ) (d : Summed s prod l start n run e t) where
   -- one packet less
   before : (b : Block) → Reads s prod l start (n + 1) run b → SumsTo s prod b start e → SumsTo s prod b (start + n) t
   before b r = d b record { held = λ j h. r.held j (omega arith); gone = λ j h. r.gone j (omega arith) }
 
   -- packet n is lost
-  pub summed_lost : among (lost l) l.len (start + n) ≡ true → Summed s prod l start (n + 1) run e t (Ok tt)
+  pub summed_lost : among (lost l) l.len (start + n) ≡ true → Summed s prod l start (n + 1) run e t
   summed_lost f b r z =
       let next : start + n + 1 ≡ start + (n + 1) = omega arith in
       subst (λ k. SumsTo s prod b k t) next (sums_lost s prod b (start + n) t (r.gone n (omega arith) f) (before b r z))
 
   -- packet n is held, and absorbed
   pub summed_held : (p : Packet) (t' : List ℕ) → among (lost l) l.len (start + n) ≡ false → SamePacket (code_of s prod) p (block_at s run n) → Gained s prod (start + n) p t t'
-      → Summed s prod l start (n + 1) run e t' (Ok tt)
+      → Summed s prod l start (n + 1) run e t'
   summed_held p t' f is gained b r z =
       let next : start + n + 1 ≡ start + (n + 1) = omega arith in
       subst (λ k. SumsTo s prod b k t') next

@@ -9,6 +9,7 @@ pub mod Nonzero
 pub mod Founds
 pub mod Rebuilds
 pub mod Passes
+pub mod Joined
 pub mod Losing
 pub mod Held
 pub mod Repairs

@@ -1,5 +1,5 @@
 -- What rebuild makes of the sums of a block: the lost packets of the codewords that agree with it, or none.
-use Rattle.std.proofs.Common.{◌≡◌, ℕ, ◌+◌, ◌*◌, ◌<◌, ◌≤◌, false, List, None, Ok, Err, Result, sym, ap, ◌∙◌, subst, inl, inr, arith}
+use Rattle.std.proofs.Common.{◌≡◌, ℕ, ◌+◌, ◌*◌, ◌<◌, ◌≤◌, false, List, ◌++◌, None, Ok, Err, Result, sym, ap, ◌∙◌, subst, inl, inr, arith}
 use lib.Bits.{bit_xor}
 use Rattle.refusal.specs.declared.Refusal.{Refusal}
 use Rattle.refusal.specs.Numbers.{said}
@@ -9,14 +9,15 @@ use Rattle.algebra.proofs.Words.{xors_ext, scaled_same}
 use Rattle.algebra.proofs.Lost.{syndrome_split, put, put_at, put_off}
 use Rattle.layout.specs.declared.shape.Shape.{Shape}
 use Rattle.layout.specs.declared.losses.LossList.{LossList}
-use Rattle.layout.specs.Sizes.{parity_of, lost, LostBelow}
+use Rattle.layout.specs.Sizes.{parity_of, Packets, lost, LostBelow}
 use Rattle.layout.specs.Blocks.{code_of, block_at}
 use Rattle.layout.proofs.Blocks.{row_lt, column_lt, place}
 use Rattle.layout.proofs.Passes.{passed}
 use Rattle.code.specs.Sums.{SumsTo}
-use Rattle.code.specs.Rebuilt.{lost_sum, Rebuilt, Unmatched, rebuild_refusal, AfterRebuild}
+use Rattle.code.specs.Rebuilt.{lost_sum, Rebuilt, Unmatched, Solved, rebuild_refusal, AfterRebuild}
 use Rattle.code.specs.Lost.{AgreeOff, Contradicted, LostPackets, FoundLost}
 use Rattle.code.proofs.Rebuilds.{xor_equal, equal_xor}
+use Rattle.code.proofs.Joined.{joined_low}
 
 -- blocks with the same packets have the same sums
 pub syndrome_same : (C : Code) (b d : Block) → SameBlock C b d → (μ : ℕ) → SamePacket C (syndrome C b μ) (syndrome C d μ)
@@ -87,10 +88,22 @@ module _ (s : Shape) (prod : ℕ → ℕ → ℕ) (l : LossList) (below : LostBe
         here = nonzero;
       }
 
-  -- what rebuild makes of the sums
+  -- what the solver makes of the sums
+  pub found_solved : (sums' : List ℕ) (r : Result (Unit {0}) Refusal) → Solved s prod l sums sums' r → FoundLost s prod l b sums' r
+  found_solved sums' (Ok u) a = lost_packets sums' a
+  found_solved sums' (Err e) a = record { sum = a.sum; word = a.word; refusal = a.refusal; contradicted = contradicted _ _ a.unmatched }
+
   pub found_lost : (bits : ℕ) (sums' scratch scratch' : List ℕ) (r : Result (Unit {0}) Refusal) → rebuild_refusal bits s l sums scratch ≡ None
       → AfterRebuild s prod l bits sums sums' scratch scratch' r → FoundLost s prod l b sums' r
-  found_lost bits sums' scratch scratch' (Ok u) pass a = lost_packets sums' a.solved
+  found_lost bits sums' scratch scratch' (Ok u) pass a = found_solved sums' (Ok u) a.solved
   found_lost bits sums' scratch scratch' (Err e) pass (inl a) = passed _ (said e) pass (sym a.refusal)
-  found_lost bits sums' scratch scratch' (Err e) pass (inr a) =
-      record { sum = a.solved.sum; word = a.solved.word; refusal = a.solved.refusal; contradicted = contradicted _ _ a.solved.unmatched }
+  found_lost bits sums' scratch scratch' (Err e) pass (inr a) = found_solved sums' (Err e) a.solved
+
+-- what begins with the packets found still does with words behind them
+pub found_joined : (s : Shape) (prod : ℕ → ℕ → ℕ) (l : LossList) → l.len ≤ parity_of s → (b : Block) (sums scratch : List ℕ) → Packets s (parity_of s) sums
+    → (r : Result (Unit {0}) Refusal) → FoundLost s prod l b sums r → FoundLost s prod l b (sums ++ scratch) r
+found_joined s prod l few b sums scratch size (Err e) d = d
+found_joined s prod l few b sums scratch size (Ok u) d = record {
+  zero = λ o a here μ h. d.zero o a (λ k m i c p q. here k m i c p q ∙ joined_low s sums scratch size k i c (omega arith) p q) μ h;
+  only = λ o a e k h i c p q. d.only o a e k h i c p q ∙ sym (joined_low s sums scratch size k i c (omega arith) p q);
+}

@@ -1,60 +1,41 @@
--- The first nonzero word of the sums from some sum on, by its place in the run behind the sums before.
-use Rattle.std.proofs.Common.{◌≡◌, ◌≢◌, ℕ, ◌+◌, ◌-◌, ◌*◌, ◌/◌, ◌%◌, ◌<◌, ◌≤◌, List, length, drop, get_or, sym, ap, ◌∙◌, div-add-mod', mul-le-mul_right, add-mul, arith, length-drop}
-use Rattle.std.specs.List.{AllWithin, HoldsAt}
-use Rattle.std.proofs.lemmas.Nat.{div_below, mod_below}
+-- The packets of the sums from some sum on, looked through for a word that is not zero.
+use Rattle.std.proofs.Common.{◌≡◌, ◌≢◌, ℕ, ◌+◌, ◌-◌, ◌*◌, ◌<◌, ◌≤◌, List, length, drop, get_or, sym, ap, ◌∙◌, add-mul, arith, length-drop}
+use native.Mathlib.Decide.{ℕ_discrete}
+use Rattle.std.specs.List.{between}
 use Rattle.std.proofs.lemmas.List.{get_or-drop}
+use Rattle.std.proofs.lemmas.List.Edits.{get_or-between}
 use Rattle.layout.specs.declared.shape.Shape.{Shape}
 use Rattle.layout.specs.Sizes.{parity_of, packet_of, Packets}
 use Rattle.code.specs.Sums.{ZeroSums, FirstAt}
 
-module _ (s : Shape) (run : List ℕ) (first v : ℕ) (size : v ≡ packet_of s) (some : 1 ≤ v) (long : Packets s (parity_of s) run) (le : first ≤ parity_of s) where
-  abbrev pub rest : List ℕ
-  rest = drop (first * v) run
+module _ (s : Shape) (sums : List ℕ) (first v : ℕ) (size : v ≡ packet_of s) (long : Packets s (parity_of s) sums) (le : first ≤ parity_of s) where
+  abbrev rest : List ℕ
+  rest = drop (first * v) sums
 
-  word_of : (k : ℕ) → get_or rest k 0 ≡ get_or run (first * v + k) 0
-  word_of k = get_or-drop (first * v) run k 0
+  pub rest_long : length rest ≡ (parity_of s - first) * packet_of s
+  rest_long =
+      length-drop (first * v) sums ∙ ap (λ k. k - first * v) long ∙ ap (λ p. parity_of s * packet_of s - first * p) size
+      ∙ (let e : parity_of s ≡ first + (parity_of s - first) = omega arith in let split = ap (λ m. m * packet_of s) e ∙ add-mul first (parity_of s - first) (packet_of s) in omega arith)
 
-  rest_length : length rest ≡ parity_of s * v - first * v
-  rest_length = length-drop (first * v) run ∙ ap (λ k. k - first * v) long ∙ ap (λ p. parity_of s * p - first * v) (sym size)
+  -- x is packet number n of these
+  module _ (n : ℕ) (x : List ℕ) (is : x ≡ between (n * packet_of s) (n * packet_of s + packet_of s) rest) where
+    word_at : (k : ℕ) → k < packet_of s → get_or x k 0 ≡ get_or sums ((first + n) * packet_of s + k) 0
+    word_at k h =
+        ap (λ l. get_or l k 0) is ∙ get_or-between rest (n * packet_of s) (n * packet_of s + packet_of s) k 0 (omega arith) ∙ get_or-drop (first * v) sums (n * packet_of s + k) 0
+        ∙ ap (λ m. get_or sums (first * m + (n * packet_of s + k)) 0) size ∙ ap (λ m. get_or sums m 0) (let split = add-mul first n (packet_of s) in omega arith)
 
-  -- word j of sum μ lies below a bound, in the rest, if the sums up to μ do
-  place : (μ j n : ℕ) → first ≤ μ → μ < first + n → j < v → ((μ - first) * v + j < n * v) × (μ * v + j ≡ first * v + ((μ - first) * v + j))
-  place μ j n a b c =
-      let up : (μ - first + 1) * v ≤ n * v = mul-le-mul_right v (omega arith) in
-      let sum : first + (μ - first) ≡ μ = omega arith in
-      let split = add-mul first (μ - first) v in
-      let e : μ * v ≡ first * v + (μ - first) * v = ap (λ m. m * v) (sym sum) ∙ split in
-      (omega (arith, add-mul (μ - first) 1 v), omega arith)
+    pub zeros_more : ((k : ℕ) → k < packet_of s → get_or x k 0 ≡ 0) → ZeroSums s sums first (first + n) → ZeroSums s sums first (first + (n + 1))
+    zeros_more z before μ j a b c = elim (ℕ_discrete μ (first + n)) [
+      | yes q ↦ ap (λ m. get_or sums (m * packet_of s + j) 0) q ∙ sym (word_at j c) ∙ z j c
+      | no q ↦ before μ j a (omega arith) c
+    ]
 
-  -- the words of the rest below n sums are zero
-  zeros : (n : ℕ) → ((k : ℕ) → k < n * v → get_or rest k 0 ≡ 0) → ZeroSums s run first (first + n)
-  zeros n z μ j a b c =
-      let p = place μ j n a b (omega arith) in
-      ap (λ p. get_or run (μ * p + j) 0) (sym size) ∙ ap (λ k. get_or run k 0) p.1 ∙ sym (word_of _) ∙ z _ p.0
-
-  pub no_nonzero : AllWithin (λ x. x ≡ 0) rest 0 (length rest) → ZeroSums s run first (parity_of s)
-  no_nonzero z =
-      let n = parity_of s - first in
-      let all : first + n ≡ parity_of s = omega arith in
-      let split = add-mul first n v in
-      let e : parity_of s * v ≡ first * v + n * v = ap (λ m. m * v) (sym all) ∙ split in
-      rw (sym all) (zeros n (λ k h. z k 0 (omega arith) (let l = rest_length in omega arith)))
-
-  pub first_at : (at : ℕ) → at < length rest → HoldsAt (λ x. x ≢ 0) rest at → AllWithin (λ x. x ≡ 0) rest 0 at → FirstAt s run first (first + at / v) (at % v)
-  first_at at lt here z =
-      let n = parity_of s - first in
-      let all : first + n ≡ parity_of s = omega arith in
-      let split : parity_of s * v ≡ first * v + n * v = ap (λ m. m * v) (sym all) ∙ add-mul first n v in
-      let whole : at / v * v + at % v ≡ at = div-add-mod' at v in
-      let inside : at / v < n = div_below at v n some (let l = rest_length in omega arith) in
-      let word : at % v < v = mod_below at v some in
-      let there : (k : ℕ) → (first + at / v) * packet_of s + k ≡ first * v + (at / v * v + k) = λ k.
-      ap (λ p. (first + at / v) * p + k) (sym size) ∙ (let e = add-mul first (at / v) v in omega arith) in
-      record {
-        from = omega arith;
-        sum = omega arith;
-        word = omega arith;
-        before = zeros (at / v) (λ k h. z k 0 (omega arith) (omega arith));
-        left = λ k h. ap (λ m. get_or run m 0) (there k) ∙ sym (word_of _) ∙ z (at / v * v + k) 0 (omega arith) (omega arith);
-        here = λ e. here 0 (ap (λ m. get_or rest m 0) (sym whole) ∙ word_of _ ∙ ap (λ m. get_or run m 0) (sym (there (at % v))) ∙ e);
-      }
+    pub first_at : (j : ℕ) → n < parity_of s - first → j < packet_of s → ((k : ℕ) → k < j → get_or x k 0 ≡ 0) → get_or x j 0 ≢ 0 → ZeroSums s sums first (first + n) → FirstAt s sums first (first + n) j
+    first_at j lt h z here before = record {
+      from = omega arith;
+      sum = omega arith;
+      word = h;
+      before = before;
+      left = λ k l. sym (word_at k (omega arith)) ∙ z k l;
+      here = λ e. here (word_at j h ∙ e);
+    }

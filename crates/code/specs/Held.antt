@@ -14,10 +14,9 @@ pub record Reads (s : Shape) (prod : ℕ → ℕ → ℕ) (l : LossList) (start 
   pub held : (j : ℕ) → j < count → among (lost l) l.len (start + j) ≡ false → SamePacket (code_of s prod) (block_at s run j) (b (start + j))
   pub gone : (j : ℕ) → j < count → among (lost l) l.len (start + j) ≡ true → ZeroPacket (code_of s prod) (b (start + j))
 
--- the sums of the packets up to `start` have become those of the packets up to `start + count`; nothing is refused
-abbrev pub Summed : Shape → (ℕ → ℕ → ℕ) → LossList → ℕ → ℕ → List ℕ → List ℕ → List ℕ → Result (Unit {0}) Refusal → Type 0
-Summed s prod l start count run before after (Ok u) = (b : Block) → Reads s prod l start count run b → SumsTo s prod b start before → SumsTo s prod b (start + count) after
-Summed s prod l start count run before after (Err e) = ⊥
+-- the sums of the packets up to `start` have become those of the packets up to `start + count`
+abbrev pub Summed : Shape → (ℕ → ℕ → ℕ) → LossList → ℕ → ℕ → List ℕ → List ℕ → List ℕ → Type 0
+Summed s prod l start count run before after = (b : Block) → Reads s prod l start count run b → SumsTo s prod b start before → SumsTo s prod b (start + count) after
 
 -- the parity is filled; nothing is refused
 abbrev pub Filled : Shape → (ℕ → ℕ → ℕ) → List ℕ → List ℕ → Result (Unit {0}) Refusal → Type 0

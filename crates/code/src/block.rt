@@ -1,63 +1,20 @@
 // Encode, check and repair one block.
-ghost use Rattle.std.specs.Prelude.{◌≡◌, ℕ, ◌+◌, ◌<◌, ◌≤◌, length, ◌≢◌};
+ghost use Rattle.std.specs.Prelude.{◌≡◌, ℕ, ◌+◌, ◌<◌, ◌≤◌, length, ◌≢◌, IfOk};
 ghost use Rattle.refusal.specs.Numbers.{refused_with};
-ghost use Rattle.layout.specs.Sizes.{parity_of, packet_of, packets_in, Packets, LostBelow};
-ghost use Rattle.layout.specs.Blocks.{block_at, packet_in, ZeroRun};
+ghost use Rattle.layout.specs.Sizes.{parity_of, packet_of, packets_in, Packets};
+ghost use Rattle.layout.specs.Blocks.{block_at, packet_in};
 ghost use Rattle.code.specs.Lost.{FoundLost};
 ghost use Rattle.code.specs.Held.{Summed, Filled};
 ghost use Rattle.code.specs.Written.{Written};
 ghost use Rattle.code.specs.Calls.{encode_refusal, AfterEncode, check_refusal, AfterCheck, Restored, AfterRepair};
 
-use crate::rebuild::rebuild;
-use crate::sums::absorb;
+use crate::code::Code;
+use crate::solver::Solver;
 use field::Arithmetic;
 use layout::losses::LossList;
 use layout::runs::clear;
 use layout::shape::{LONGEST, Shape};
 use refusal::Refusal;
-
-// Adds to the sums the packets of `run`, at the positions from `start` on, that are not lost.
-fn absorb_held<F: Arithmetic>(
-    shape: &Shape,
-    sums: &mut [u32],
-    run: &[u32],
-    start: usize,
-    losses: &LossList,
-) -> Result<(), Refusal>
-    requires width { shape.now.rows ≡ F.Arithmetic.bits }
-    requires sums { Packets shape.now (parity_of shape.now) sums.old }
-    requires run { Packets shape.now (packets_in shape.now run.now) run.now }
-    requires end { start + packets_in shape.now run.now ≤ shape.now.positions }
-    ensures { Summed shape.now F.Arithmetic.prod losses.now start (packets_in shape.now run.now) run.now sums.old sums.new result }
-{
-    for (i, packet) in run.chunks(shape.packet()).enumerate() {
-        if !losses.contains(start + i) {
-            absorb::<F>(shape, sums, start + i, packet)?;
-        }
-    }
-    Ok(())
-}
-
-// Finds the lost packets of a block, by sums that are zero at first and a packet for scratch.
-fn find_lost<F: Arithmetic>(
-    shape: &Shape,
-    block: &[u32],
-    losses: &LossList,
-    sums: &mut [u32],
-    scratch: &mut [u32],
-) -> Result<(), Refusal>
-    requires width { shape.now.rows ≡ F.Arithmetic.bits }
-    requires block { Packets shape.now shape.now.positions block.now }
-    requires sums { Packets shape.now (parity_of shape.now) sums.old }
-    requires zero { ZeroRun sums.old }
-    requires scratch { length scratch.old ≡ packet_of shape.now }
-    requires count { losses.now.len ≤ parity_of shape.now }
-    requires below { LostBelow losses.now shape.now.positions }
-    ensures { FoundLost shape.now F.Arithmetic.prod losses.now (block_at shape.now block.now) sums.new result }
-{
-    absorb_held::<F>(shape, sums, block, 0, losses)?;
-    rebuild::<F>(shape, losses, sums, scratch)
-}
 
 // Writes a packet to a position of the block.
 fn write_packet(shape: &Shape, block: &mut [u32], position: usize, packet: &[u32])
@@ -71,37 +28,77 @@ fn write_packet(shape: &Shape, block: &mut [u32], position: usize, packet: &[u32
     block[position * p..position * p + p].copy_from_slice(packet);
 }
 
-// Writes the packets found to the lost positions of the block.
-fn write_found(shape: &Shape, losses: &LossList, sums: &[u32], block: &mut [u32])
-    requires sums { Packets shape.now (parity_of shape.now) sums.now }
-    requires block { Packets shape.now shape.now.positions block.old }
-    requires count { losses.now.len ≤ parity_of shape.now }
-    requires below { LostBelow losses.now shape.now.positions }
-    ensures { Written shape.now losses.now losses.now.len sums.now block.old block.new }
-{
-    for (at, packet) in losses.positions().iter().zip(sums.chunks(shape.packet())) {
-        write_packet(shape, block, *at, packet);
+impl<'a, F: Arithmetic> Solver<'a, F> {
+    // Adds to the sums the packets of `run`, at the positions from `start` on, that are not lost.
+    fn absorb_held(&self, sums: &mut [u32], run: &[u32], start: usize)
+        requires sums { Packets self.now.code.shape.now (parity_of self.now.code.shape.now) sums.old }
+        requires run { Packets self.now.code.shape.now (packets_in self.now.code.shape.now run.now) run.now }
+        requires end { start + packets_in self.now.code.shape.now run.now ≤ self.now.code.shape.now.positions }
+        ensures { Summed self.now.code.shape.now F.Arithmetic.prod self.now.losses.now start (packets_in self.now.code.shape.now run.now) run.now sums.old sums.new }
+    {
+        for (i, packet) in run.chunks(self.code.shape.packet()).enumerate() {
+            if !self.losses.contains(start + i) {
+                self.code.absorb(sums, start + i, packet);
+            }
+        }
+    }
+
+    // Finds the lost packets of a block: they stand in the first places of the work run afterwards.
+    fn find_lost(&self, block: &[u32], work: &mut [u32]) -> Result<(), Refusal>
+        requires block { Packets self.now.code.shape.now self.now.code.shape.now.positions block.now }
+        requires work { Packets self.now.code.shape.now (parity_of self.now.code.shape.now + 1) work.old }
+        ensures { FoundLost self.now.code.shape.now F.Arithmetic.prod self.now.losses.now (block_at self.now.code.shape.now block.now) work.new result }
+    {
+        let shape = self.code.shape;
+        clear(work);
+        let (sums, scratch) = work.split_at_mut(shape.parity() * shape.packet());
+        self.absorb_held(sums, block, 0);
+        self.find(sums, scratch)
+    }
+
+    // Writes the packets found to the lost positions of the block.
+    fn write_found(&self, work: &[u32], block: &mut [u32])
+        requires work { Packets self.now.code.shape.now (parity_of self.now.code.shape.now + 1) work.now }
+        requires block { Packets self.now.code.shape.now self.now.code.shape.now.positions block.old }
+        ensures { Written self.now.code.shape.now self.now.losses.now self.now.losses.now.len work.now block.old block.new }
+    {
+        let shape = self.code.shape;
+        let places = self.losses.positions().iter();
+        for (at, packet) in places.zip(work.chunks(shape.packet())) {
+            write_packet(shape, block, *at, packet);
+        }
+    }
+
+    // Restores the lost packets of a block.
+    fn restore(&self, block: &mut [u32], work: &mut [u32]) -> Result<(), Refusal>
+        requires block { Packets self.now.code.shape.now self.now.code.shape.now.positions block.old }
+        requires work { Packets self.now.code.shape.now (parity_of self.now.code.shape.now + 1) work.old }
+        ensures { Restored self.now.code.shape.now F.Arithmetic.prod self.now.losses.now block.old block.new result }
+    {
+        self.find_lost(block, work)?;
+        self.write_found(work, block);
+        Ok(())
     }
 }
 
 // Finds the parity packets as packets that are lost.
 fn fill_parity<F: Arithmetic>(
-    shape: &Shape,
+    code: Code<F>,
     source: &[u32],
     parity: &mut [u32],
 ) -> Result<(), Refusal>
-    requires width { shape.now.rows ≡ F.Arithmetic.bits }
-    requires source { Packets shape.now shape.now.sources source.now }
-    requires parity { Packets shape.now (parity_of shape.now) parity.old }
-    ensures { Filled shape.now F.Arithmetic.prod source.now parity.new result }
+    requires source { Packets code.shape.now code.shape.now.sources source.now }
+    requires parity { Packets code.shape.now (parity_of code.shape.now) parity.old }
+    ensures { Filled code.entry.shape.now F.Arithmetic.prod source.now parity.new result }
 {
-    let p = shape.packet();
+    let shape = code.shape;
     let losses = LossList::parity(shape);
+    let solver = Solver::new(code, &losses)?;
     // Room for a packet of any shape: a board has no heap.
     let mut scratch = [0; LONGEST];
     clear(parity);
-    absorb_held::<F>(shape, parity, source, shape.parity(), &losses)?;
-    rebuild::<F>(shape, &losses, parity, &mut scratch[0..p])
+    solver.absorb_held(parity, source, shape.parity());
+    solver.find(parity, &mut scratch[0..shape.packet()])
 }
 
 // Fills the parity run of a block from its source run.
@@ -113,19 +110,25 @@ pub fn encode<F: Arithmetic>(
     ensures answer { refused_with result ≡ encode_refusal F.Arithmetic.bits shape.now source.now parity.old }
     ensures after { AfterEncode shape.now F.Arithmetic.prod source.now parity.old parity.new result }
 {
-    shape.check_width::<F>()?;
+    let code = Code::<F>::new(shape)?;
     shape.check_run(shape.sources(), source, 0)?;
     shape.check_run(shape.parity(), parity, 1)?;
-    fill_parity::<F>(shape, source, parity)
+    fill_parity(code, source, parity)
 }
 
-// Refuses runs of a check or a repair.
-fn check_runs<F: Arithmetic>(shape: &Shape, block: &[u32], work: &[u32]) -> Result<(), Refusal>
-    ensures { refused_with result ≡ check_refusal F.Arithmetic.bits shape.now block.now work.now }
+// The code of a shape; refused for another width, and for runs that a check or a repair cannot work on.
+fn code_for<'a, F: Arithmetic>(
+    shape: &'a Shape,
+    block: &[u32],
+    work: &[u32],
+) -> Result<Code<'a, F>, Refusal>
+    ensures answer { refused_with result ≡ check_refusal F.Arithmetic.bits shape.now block.now work.now }
+    ensures of { IfOk result (λ code. code.shape.now ≡ shape.now) }
 {
-    shape.check_width::<F>()?;
+    let code = Code::new(shape)?;
     shape.check_run(shape.positions(), block, 0)?;
-    shape.check_run(shape.parity() + 1, work, 1)
+    shape.check_run(shape.parity() + 1, work, 1)?;
+    Ok(code)
 }
 
 // Whether a block is a codeword.
@@ -133,34 +136,12 @@ pub fn check<F: Arithmetic>(shape: &Shape, block: &[u32], work: &mut [u32]) -> R
     ensures answer { refused_with result ≡ check_refusal F.Arithmetic.bits shape.now block.now work.old }
     ensures after { AfterCheck shape.now F.Arithmetic.prod block.now work.old work.new result }
 {
-    check_runs::<F>(shape, block, work)?;
-    clear(work);
-    let (sums, scratch) = work.split_at_mut(shape.parity() * shape.packet());
-    let outcome = find_lost::<F>(shape, block, &LossList::none(), sums, scratch);
+    let code = code_for::<F>(shape, block, work)?;
+    let none = LossList::none();
+    let solver = Solver::new(code, &none)?;
+    let outcome = solver.find_lost(block, work);
     clear(work);
     Ok(outcome.is_ok())
-}
-
-// Repairs a block, by sums that are zero at first and a packet for scratch, which are left with anything.
-fn restore<F: Arithmetic>(
-    shape: &Shape,
-    block: &mut [u32],
-    losses: &LossList,
-    sums: &mut [u32],
-    scratch: &mut [u32],
-) -> Result<(), Refusal>
-    requires width { shape.now.rows ≡ F.Arithmetic.bits }
-    requires sums { Packets shape.now (parity_of shape.now) sums.old }
-    requires zero { ZeroRun sums.old }
-    requires scratch { length scratch.old ≡ packet_of shape.now }
-    requires block { Packets shape.now shape.now.positions block.old }
-    requires count { losses.now.len ≤ parity_of shape.now }
-    requires below { LostBelow losses.now shape.now.positions }
-    ensures { Restored shape.now F.Arithmetic.prod losses.now block.old block.new result }
-{
-    find_lost::<F>(shape, block, losses, sums, scratch)?;
-    write_found(shape, losses, sums, block);
-    Ok(())
 }
 
 // Restores the packets of a block at the lost positions, whatever stands there.
@@ -172,11 +153,9 @@ pub fn repair<F: Arithmetic>(
 ) -> Result<(), Refusal>
     ensures { AfterRepair F.Arithmetic.bits shape.now F.Arithmetic.prod losses.now block.old block.new work.old work.new result }
 {
-    check_runs::<F>(shape, block, work)?;
-    losses.check(shape)?;
-    clear(work);
-    let (sums, scratch) = work.split_at_mut(shape.parity() * shape.packet());
-    let outcome = restore::<F>(shape, block, losses, sums, scratch);
+    let code = code_for::<F>(shape, block, work)?;
+    let solver = Solver::new(code, losses)?;
+    let outcome = solver.restore(block, work);
     clear(work);
     outcome
 }

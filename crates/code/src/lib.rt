@@ -3,6 +3,7 @@
 #![tactic(auto)]
 
 pub mod block;
+mod code;
 pub mod fits;
 mod packet;
 pub mod rebuild;

@@ -5,6 +5,7 @@ ghost use Rattle.layout.specs.Sizes.{packet_of};
 ghost use Rattle.layout.specs.Blocks.{code_of, packet_in};
 ghost use Rattle.code.specs.Packets.{selected};
 
+use crate::code::Code;
 use field::Arithmetic;
 use layout::shape::Shape;
 use std::array;
@@ -54,12 +55,13 @@ fn add_product(columns: &[u32; 10], shape: &Shape, source: &[u32], target: &mut 
     }
 }
 
-// Adds `a` times the packet `source` to the packet `target`.
-pub(crate) fn add_times<F: Arithmetic>(a: u32, shape: &Shape, source: &[u32], target: &mut [u32])
-    requires width { shape.now.rows ≡ F.Arithmetic.bits }
-    requires target { length target.old ≡ packet_of shape.now }
-    requires source { length source.now ≡ packet_of shape.now }
-    ensures { SamePacket (code_of shape.now F.Arithmetic.prod) (packet_in shape.now.words target.new) (λ i c. bit_xor (packet_in shape.now.words target.old i c) (scaled (code_of shape.now F.Arithmetic.prod) (a % 2 ^ F.Arithmetic.bits) (packet_in shape.now.words source.now) i c)) }
-{
-    add_product(&columns::<F>(a), shape, source, target);
+impl<'a, F: Arithmetic> Code<'a, F> {
+    // Adds `a` times the packet `source` to the packet `target`.
+    pub(crate) fn add_times(&self, a: u32, source: &[u32], target: &mut [u32])
+        requires target { length target.old ≡ packet_of self.now.shape.now }
+        requires source { length source.now ≡ packet_of self.now.shape.now }
+        ensures { SamePacket (code_of self.now.shape.now F.Arithmetic.prod) (packet_in self.now.shape.now.words target.new) (λ i c. bit_xor (packet_in self.now.shape.now.words target.old i c) (scaled (code_of self.now.shape.now F.Arithmetic.prod) (a % 2 ^ F.Arithmetic.bits) (packet_in self.now.shape.now.words source.now) i c)) }
+    {
+        add_product(&columns::<F>(a), self.shape, source, target);
+    }
 }

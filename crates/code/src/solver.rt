@@ -1,29 +1,34 @@
 // The packets at lost positions, from the sums of the others.
-ghost use Rattle.std.specs.Prelude.{◌≡◌, ℕ, ◌+◌, ◌-◌, ◌*◌, ◌%◌, ◌^◌, ◌<◌, ◌≤◌, length};
+ghost use Rattle.std.specs.Prelude.{◌≡◌, ℕ, ◌+◌, ◌-◌, ◌*◌, ◌%◌, ◌^◌, ◌<◌, ◌≤◌, length, IfOk};
+ghost use Rattle.refusal.specs.Numbers.{refused_with};
 ghost use Rattle.galois.specs.Field.{power};
 ghost use Rattle.layout.specs.Sizes.{parity_of, packet_of, Packets, lost, LostBelow};
+ghost use Rattle.layout.specs.Checks.{loss_refusal};
 ghost use Rattle.code.specs.Found.{FoundAdded};
 ghost use Rattle.code.specs.Solving.{node_at, Solvable, gap_of, Copied, Stepped, Untouched, Keeps, sums_of, stage_of, found_of};
+ghost use Rattle.code.specs.Rebuilt.{Solved};
 
-use crate::packet::{add_times, add_words};
-use crate::sums::add_packet;
+use crate::code::Code;
+use crate::packet::add_words;
+use crate::sums::first_nonzero;
 use field::Arithmetic;
 use field::power::raise;
 use layout::losses::LossList;
+use layout::runs::clear;
 use layout::shape::Shape;
-use std::marker::PhantomData;
+use refusal::Refusal;
 
-// The lost packets of a block, to be found from its sums: the node α^p of each lost position p, in the first `count` places
-// (a board has no heap). The sums and a packet of scratch are lent to each step: a solver that held them would have to promise
-// at each step that it holds the same runs still.
+// The lost packets of a block, to be found from its sums, with the node α^p of each lost position p. The sums and a packet of
+// scratch are lent to each step: a solver that held them would have to promise at each step that it holds the same runs still.
 #[derive(Drop)]
 pub(crate) struct Solver<'a, F: Arithmetic> {
-    shape: &'a Shape,
+    pub(crate) code: Code<'a, F>,
+    pub(crate) losses: &'a LossList,
+    // As many as are lost, in the first places: a board has no heap.
     nodes: [u32; 32],
-    count: usize,
-    field: PhantomData<F>,
-    ghost width: { shape.now.rows ≡ F.Arithmetic.bits },
-    ghost solvable: { Solvable shape.now F.Arithmetic.prod F.Arithmetic.inv nodes count },
+    ghost below: { LostBelow losses.now code.shape.now.positions },
+    ghost at: { (s : ℕ) → s < losses.now.len → node_at nodes s ≡ power F.Arithmetic.prod 2 (lost losses.now s) },
+    ghost solvable: { Solvable code.shape.now F.Arithmetic.prod F.Arithmetic.inv nodes losses.now.len },
 }
 
 // Copies sum 0 to sum `n`.
@@ -38,57 +43,57 @@ fn keep_first(shape: &Shape, sums: &mut [u32], n: usize)
 }
 
 impl<'a, F: Arithmetic> Solver<'a, F> {
-    pub(crate) fn new(shape: &'a Shape, losses: &LossList) -> Solver<'a, F>
-        requires width { shape.now.rows ≡ F.Arithmetic.bits }
-        requires few { losses.now.len ≤ parity_of shape.now }
-        requires below { LostBelow losses.now shape.now.positions }
-        ensures shape { result.shape.now ≡ shape.now }
-        ensures count { result.count ≡ losses.now.len }
-        ensures at { (s : ℕ) → s < losses.now.len → node_at result.nodes s ≡ power F.Arithmetic.prod 2 (lost losses.now s) }
+    // Refuses losses that a block of the code cannot have, or that are too many.
+    pub(crate) fn new(code: Code<'a, F>, losses: &'a LossList) -> Result<Solver<'a, F>, Refusal>
+        ensures answer { refused_with result ≡ loss_refusal code.entry.shape.now losses.now }
+        ensures of { IfOk result (λ solver. (solver.code.shape.now ≡ code.entry.shape.now) × (solver.losses.now ≡ losses.now)) }
     {
+        losses.check(code.shape)?;
         let mut nodes = [0; 32];
         // By index: of an array that `iter_mut().zip(..)` wrote to, nothing is known afterwards; and by `from_fn` every place would
-        // have to ask whether there is a position for it.
+        // have to ask whether there is a position for it. A position is below 1,024, so `as` keeps it.
         for (s, p) in losses.positions().iter().enumerate() {
             nodes[s] = raise::<F>(2, *p as u32);
         }
-        Solver {
-            shape,
+        Ok(Solver {
+            code,
+            losses,
             nodes,
-            count: losses.positions().len(),
-            field: PhantomData,
-        }
+        })
     }
 
-    pub(crate) fn count(&self) -> usize
-        ensures { result ≡ self.now.count }
+    // How many packets are lost.
+    fn count(&self) -> usize
+        ensures { result ≡ self.now.losses.now.len }
     {
-        self.count
+        self.losses.positions().len()
     }
 
     // Adds `a` times sum `from` to sum `to`, by way of `scratch`.
     fn add_entry(&self, sums: &mut [u32], scratch: &mut [u32], a: u32, to: usize, from: usize)
-        requires sums { Packets self.now.shape.now (parity_of self.now.shape.now) sums.old }
-        requires scratch { length scratch.old ≡ packet_of self.now.shape.now }
-        requires to { to < parity_of self.now.shape.now }
-        requires from { from < parity_of self.now.shape.now }
-        ensures { Stepped self.now.shape.now F.Arithmetic.prod (a % 2 ^ F.Arithmetic.bits) to from sums.old sums.new }
+        requires sums { Packets self.now.code.shape.now (parity_of self.now.code.shape.now) sums.old }
+        requires scratch { length scratch.old ≡ packet_of self.now.code.shape.now }
+        requires to { to < parity_of self.now.code.shape.now }
+        requires from { from < parity_of self.now.code.shape.now }
+        ensures { Stepped self.now.code.shape.now F.Arithmetic.prod (a % 2 ^ F.Arithmetic.bits) to from sums.old sums.new }
     {
-        let p = self.shape.packet();
+        let p = self.code.shape.packet();
         scratch.copy_from_slice(&sums[from * p..from * p + p]);
-        add_times::<F>(a, self.shape, scratch, &mut sums[to * p..to * p + p]);
+        self.code
+            .add_times(a, scratch, &mut sums[to * p..to * p + p]);
     }
 
     // The forward steps: stage j adds x_j times each sum to the next, from the last one down to sum j.
     fn forward(&self, sums: &mut [u32], scratch: &mut [u32])
-        requires sums { Packets self.now.shape.now (parity_of self.now.shape.now) sums.old }
-        requires scratch { length scratch.old ≡ packet_of self.now.shape.now }
-        ensures keeps { Keeps self.now.shape.now F.Arithmetic.prod F.Arithmetic.inv self.now.nodes self.now.count (sums_of self.now.shape.now F.Arithmetic.prod F.Arithmetic.inv self.now.nodes self.now.count) (stage_of self.now.shape.now F.Arithmetic.prod F.Arithmetic.inv self.now.nodes self.now.count (self.now.count - 1)) sums.old sums.new }
-        ensures off { Untouched self.now.shape.now F.Arithmetic.prod self.now.count sums.old sums.new }
+        requires sums { Packets self.now.code.shape.now (parity_of self.now.code.shape.now) sums.old }
+        requires scratch { length scratch.old ≡ packet_of self.now.code.shape.now }
+        ensures keeps { Keeps self.now.code.shape.now F.Arithmetic.prod F.Arithmetic.inv self.now.nodes self.now.losses.now.len (sums_of self.now.code.shape.now F.Arithmetic.prod F.Arithmetic.inv self.now.nodes self.now.losses.now.len) (stage_of self.now.code.shape.now F.Arithmetic.prod F.Arithmetic.inv self.now.nodes self.now.losses.now.len (self.now.losses.now.len - 1)) sums.old sums.new }
+        ensures off { Untouched self.now.code.shape.now F.Arithmetic.prod self.now.losses.now.len sums.old sums.new }
     {
         // The numbers of the stage and of the sum are the algorithm's own: each step reads one sum and writes the next.
-        for j in 1..self.count {
-            for i in (j..self.count).rev() {
+        let t = self.count();
+        for j in 1..t {
+            for i in (j..t).rev() {
                 self.add_entry(sums, scratch, self.nodes[j - 1], i, i - 1);
             }
         }
@@ -98,7 +103,7 @@ impl<'a, F: Arithmetic> Solver<'a, F> {
     #[tactic(auto, unfolding(crate::specs::Solving::gap_of))]
     fn gap(&self, j: usize, n: usize) -> u32
         requires order { j ≤ n }
-        requires within { n < self.now.count }
+        requires within { n < self.now.losses.now.len }
         ensures value { result ≡ gap_of F.Arithmetic.prod (node_at self.now.nodes) j (n - j) (node_at self.now.nodes n) }
         ensures element { result < 2 ^ F.Arithmetic.bits }
     {
@@ -111,50 +116,69 @@ impl<'a, F: Arithmetic> Solver<'a, F> {
 
     // One backward step: finds packet `n`, the last that is not found yet, and takes it out of the sums before it.
     fn backward(&self, n: usize, sums: &mut [u32], scratch: &mut [u32])
-        requires sums { Packets self.now.shape.now (parity_of self.now.shape.now) sums.old }
-        requires scratch { length scratch.old ≡ packet_of self.now.shape.now }
-        requires n { n < self.now.count }
+        requires sums { Packets self.now.code.shape.now (parity_of self.now.code.shape.now) sums.old }
+        requires scratch { length scratch.old ≡ packet_of self.now.code.shape.now }
+        requires n { n < self.now.losses.now.len }
         requires some { 1 ≤ n }
-        ensures keeps { Keeps self.now.shape.now F.Arithmetic.prod F.Arithmetic.inv self.now.nodes self.now.count (found_of self.now.shape.now F.Arithmetic.prod F.Arithmetic.inv self.now.nodes self.now.count n) (found_of self.now.shape.now F.Arithmetic.prod F.Arithmetic.inv self.now.nodes self.now.count (n - 1)) sums.old sums.new }
-        ensures off { Untouched self.now.shape.now F.Arithmetic.prod self.now.count sums.old sums.new }
+        ensures keeps { Keeps self.now.code.shape.now F.Arithmetic.prod F.Arithmetic.inv self.now.nodes self.now.losses.now.len (found_of self.now.code.shape.now F.Arithmetic.prod F.Arithmetic.inv self.now.nodes self.now.losses.now.len n) (found_of self.now.code.shape.now F.Arithmetic.prod F.Arithmetic.inv self.now.nodes self.now.losses.now.len (n - 1)) sums.old sums.new }
+        ensures off { Untouched self.now.code.shape.now F.Arithmetic.prod self.now.losses.now.len sums.old sums.new }
     {
-        let p = self.shape.packet();
+        let p = self.code.shape.packet();
         scratch.copy_from_slice(&sums[n * p..n * p + p]);
-        keep_first(self.shape, sums, n);
+        keep_first(self.code.shape, sums, n);
         // By number, as the gap is; and of a run that `chunks_mut` lent, nothing is known afterwards.
         for j in 0..n {
             let theta = F::inverse(self.gap(j, n));
-            add_times::<F>(theta, self.shape, scratch, &mut sums[j * p..j * p + p]);
+            self.code
+                .add_times(theta, scratch, &mut sums[j * p..j * p + p]);
         }
         scratch.copy_from_slice(&sums[0..p]);
         add_words(&mut sums[n * p..n * p + p], scratch);
     }
 
-    // Turns the first `count` sums, of the lost packets alone, into the packets.
-    pub(crate) fn solve(&self, sums: &mut [u32], scratch: &mut [u32])
-        requires sums { Packets self.now.shape.now (parity_of self.now.shape.now) sums.old }
-        requires scratch { length scratch.old ≡ packet_of self.now.shape.now }
-        ensures solved { Keeps self.now.shape.now F.Arithmetic.prod F.Arithmetic.inv self.now.nodes self.now.count (sums_of self.now.shape.now F.Arithmetic.prod F.Arithmetic.inv self.now.nodes self.now.count) (λ I. I) sums.old sums.new }
-        ensures off { Untouched self.now.shape.now F.Arithmetic.prod self.now.count sums.old sums.new }
+    // Turns the first sums, as many as are lost, into the lost packets.
+    fn solve(&self, sums: &mut [u32], scratch: &mut [u32])
+        requires sums { Packets self.now.code.shape.now (parity_of self.now.code.shape.now) sums.old }
+        requires scratch { length scratch.old ≡ packet_of self.now.code.shape.now }
+        ensures solved { Keeps self.now.code.shape.now F.Arithmetic.prod F.Arithmetic.inv self.now.nodes self.now.losses.now.len (sums_of self.now.code.shape.now F.Arithmetic.prod F.Arithmetic.inv self.now.nodes self.now.losses.now.len) (λ I. I) sums.old sums.new }
+        ensures off { Untouched self.now.code.shape.now F.Arithmetic.prod self.now.losses.now.len sums.old sums.new }
     {
         self.forward(sums, scratch);
         // By number: each step finds packet n and takes it out of the sums before it.
-        for n in (1..self.count).rev() {
+        for n in (1..self.count()).rev() {
             self.backward(n, sums, scratch);
         }
     }
 
     // Adds the packets found, in the first sums, to the sums behind them.
-    pub(crate) fn add_found(&self, sums: &mut [u32], scratch: &mut [u32])
-        requires sums { Packets self.now.shape.now (parity_of self.now.shape.now) sums.old }
-        requires scratch { length scratch.old ≡ packet_of self.now.shape.now }
-        ensures { FoundAdded self.now.shape.now F.Arithmetic.prod self.now.nodes self.now.count self.now.count sums.old sums.new }
+    fn add_found(&self, sums: &mut [u32], scratch: &mut [u32])
+        requires sums { Packets self.now.code.shape.now (parity_of self.now.code.shape.now) sums.old }
+        requires scratch { length scratch.old ≡ packet_of self.now.code.shape.now }
+        ensures { FoundAdded self.now.code.shape.now F.Arithmetic.prod self.now.nodes self.now.losses.now.len self.now.losses.now.len sums.old sums.new }
     {
-        let p = self.shape.packet();
+        let p = self.code.shape.packet();
         // By number: the packets found and the sums that take them in are parts of one run.
-        for s in 0..self.count {
+        let t = self.count();
+        for s in 0..t {
             scratch.copy_from_slice(&sums[s * p..s * p + p]);
-            add_packet::<F>(self.shape, sums, self.count, self.nodes[s], scratch);
+            self.code.add_packet(sums, t, self.nodes[s], scratch);
+        }
+    }
+
+    // Turns the sums of the packets that are not lost into the packets that are; the scratch packet is left with anything.
+    pub(crate) fn find(&self, sums: &mut [u32], scratch: &mut [u32]) -> Result<(), Refusal>
+        requires sums { Packets self.now.code.shape.now (parity_of self.now.code.shape.now) sums.old }
+        requires scratch { length scratch.old ≡ packet_of self.now.code.shape.now }
+        ensures { Solved self.now.code.shape.now F.Arithmetic.prod self.now.losses.now sums.old sums.new result }
+    {
+        self.solve(sums, scratch);
+        self.add_found(sums, scratch);
+        match first_nonzero(self.code.shape, sums, self.count()) {
+            None => Ok(()),
+            Some((sum, word)) => {
+                clear(sums);
+                Err(Refusal::Contradictory { sum, word })
+            }
         }
     }
 }

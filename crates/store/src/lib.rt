@@ -19,6 +19,7 @@ pub mod twice;
 
 // A grid of slots, each empty or filled with one packet of the grid's size.
 // A new store has no rows and no columns. The capacity, in words, never changes.
+// The clauses read a slot and a format by their numbers, since a grid is a matter of numbers and knows neither.
 pub trait SlotStore {
     ghost capacity: { Self → ℕ };
 

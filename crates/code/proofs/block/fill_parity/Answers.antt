@@ -1,36 +1,41 @@
 use Rattle.std.proofs.Math.Facts.{Fits-lt-pow}
-use Rattle.std.proofs.Common.{◌≡◌, ℕ, ◌-◌, ◌≤◌, List, length, take, replicate, Ok, ◌∙◌, subst, arith}
-use Rattle.std.proofs.lemmas.List.{length-take-le}
-use Rattle.layout.specs.Sizes.{parity_of, packet_of, Packets}
+use Rattle.std.proofs.Common.{◌∙◌, arith}
+use Rattle.layout.specs.Sizes.{parity_of}
 use Rattle.layout.proofs.Blocks.{packets_are}
-use Rattle.code.proofs.Passes.{rebuild_passes}
+use Rattle.layout.proofs.Passes.{passed, losses_ok}
 use Rattle.code.specs.Held.{Summed}
+use Rattle.code.specs.Rebuilt.{Solved}
 use Rattle.code.proofs.Encodes.{parity_below, source_sums, filled}
 use Rattle.code.proofs.block.fill_parity.Goals as goal
 
+pub returns-in_err-solver : goal.returns-in_err-solver
+returns-in_err-solver g c =
+    let s = c.args.code.shape.now in
+    let l = c.parity-losses.result in
+    passed _ _ (losses_ok s l (parity_below s g.F.Arithmetic.prod l c.parity-losses.ensures.len c.parity-losses.ensures.at c.args.source.now c.requires.source) (let e = c.parity-losses.ensures.len in omega arith)) c.in_err-solver.ensures.answer
+
 pub absorb_held-requires-clause-run : goal.absorb_held-requires-clause-run
-absorb_held-requires-clause-run g c = rw (packets_are c.args.shape.now c.args.shape.now.sources c.args.source.now c.requires.source) c.requires.source
+absorb_held-requires-clause-run g c =
+    let s = c.args.code.shape.now in
+    rw (c.in_ok-solver.ensures.of.0, packets_are s s.sources c.args.source.now c.requires.source) c.requires.source
+
+pub absorb_held-requires-clause-end : goal.absorb_held-requires-clause-end
+absorb_held-requires-clause-end g c =
+    let s = c.args.code.shape.now in
+    rw (c.in_ok-solver.ensures.of.0, packets_are s s.sources c.args.source.now c.requires.source, c.parity.ensures) (let k = s.counts in omega arith)
 
 pub returns : goal.returns
 returns g c =
     let f = g.F.Arithmetic in
-    let s = c.args.shape.now in
+    let s = c.args.code.shape.now in
     let l = c.parity-losses.result in
     let few = c.parity-losses.ensures.len in
     let ids = c.parity-losses.ensures.at in
     let source = c.args.source.now in
-    let long = c.requires.source in
+    let of = c.in_ok-solver.ensures.of in
     let S = c.absorb_held.new.sums in
-    let V = c.rebuild.new.sums in
-    let p = c.packet-p.result in
-    let room : p - 0 ≤ 160 = let b = c.packet-p.ensures.bounds in omega arith in
-    let whole : p - 0 ≡ p = omega arith in
-    let zeros : List ℕ = replicate 160 0 in
-    let scratch : length (take (p - 0) zeros) ≡ packet_of s = length-take-le (p - 0) zeros room ∙ whole ∙ c.packet-p.ensures.value in
-    let size : Packets s (parity_of s) S = c.absorb_held.auto.sums ∙ c.clear.auto.run ∙ c.requires.parity in
-    let summed : Summed s f.prod l (parity_of s) s.sources source c.clear.new.run S (Ok tt) =
-    subst (λ n. Summed s f.prod l n s.sources source c.clear.new.run S (Ok tt)) c.parity.ensures
-    (subst (λ k. Summed s f.prod l c.parity.result k source c.clear.new.run S (Ok tt)) (packets_are s s.sources source long) c.in_ok-absorb_held.ensures) in
-    filled s f.prod l few ids source long f.bits S V _ c.rebuild.new.scratch (source_sums s f.prod l few ids source long c.clear.new.run S c.clear.ensures summed)
-    (rebuild_passes f.bits s c.requires.width S size l _ (parity_below s f.prod l few ids source long) (omega arith) scratch)
-    (c.rebuild.auto.sums ∙ size) (λ k. Fits-lt-pow (c.type_inv.parity k)) (λ k. Fits-lt-pow (c.type_inv.source k)) c.rebuild.result c.rebuild.ensures
+    let V = c.find.new.sums in
+    let summed : Summed s f.prod l (parity_of s) s.sources source c.clear.new.run S = rw (of.0, of.1, c.parity.ensures, packets_are s s.sources source c.requires.source) at c.absorb_held.ensures in
+    let solved : Solved s f.prod l S V c.find.result = rw (of.0, of.1) at c.find.ensures in
+    filled s f.prod l few ids source c.requires.source S V (source_sums s f.prod l few ids source c.requires.source c.clear.new.run S c.clear.ensures summed)
+    (c.find.auto.sums ∙ c.absorb_held.auto.sums ∙ c.clear.auto.run ∙ c.requires.parity) (λ k. Fits-lt-pow (c.type_inv.parity k)) (λ k. Fits-lt-pow (c.type_inv.source k)) c.find.result solved

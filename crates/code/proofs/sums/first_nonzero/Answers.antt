@@ -1,21 +1,57 @@
-use Rattle.std.proofs.Common.{◌≡◌, ◌≢◌, ◌*◌, drop, ◌∙◌, rules}
-use borrow.Author.Tests.{tests}
-use Rattle.std.proofs.lemmas.List.{take_rest}
-use Rattle.std.proofs.lemmas.Iterator.{IsFirst-from_position, YieldsList-from_slice}
-use Rattle.code.proofs.Nonzero.{no_nonzero, first_at}
+use Rattle.std.proofs.Common.{◌≡◌, ◌+◌, ◌-◌, ◌*◌, [], ◌∷◌, length, drop, sym, ap, ◌∙◌, subst, arith, length-append}
+use Rattle.layout.specs.Sizes.{parity_of, packet_of}
+use Rattle.layout.proofs.Blocks.{packet_pos}
+use Rattle.code.specs.Sums.{ZeroSums, FirstAt}
+use Rattle.code.proofs.Chunks.{chunk_turn, chunks_done}
+use Rattle.code.proofs.Nonzero.{rest_long, zeros_more, first_at}
 use Rattle.code.proofs.sums.first_nonzero.Goals as goal
 
-pub returns-in_err-at : goal.returns-in_err-at
-returns-in_err-at c =
-    let v = c.packet-p.ensures in
-    let rest = drop (c.args.first * c.packet-p.result) c.args.sums.now in
-    let found = IsFirst-from_position {all = rest} _ _ _ (λ x. x ≢ 0) (λ x. x ≡ 0) c.position.ensures.ran (YieldsList-from_slice rest (c.iter.ensures.rest ∙ take_rest c.args.sums.now (c.args.first * c.packet-p.result))) (λ x q k. search (rules, tests)) (λ x q k. search (rules, tests)) in
-    rw c.from_residual.ensures (no_nonzero c.args.shape.now c.args.sums.now c.args.first c.packet-p.result v.value v.bounds.0 c.requires.sums c.requires.first (rw c.in_err-at.was at found))
+pub found-preserved : goal.found-preserved
+found-preserved c =
+    let s = c.args.shape.now in
+    let sums = c.args.sums.now in
+    let first = c.args.first in
+    let p = c.packet-p.result in
+    let size = c.packet-p.ensures.value in
+    let n = length c.found.yielded in
+    let v = c.found.invariant in
+    let long = rest_long s sums first p size c.requires.sums c.requires.first in
+    let (step, number, counted, _) = c.in-Some.ensures.steps in
+    let turn = chunk_turn (packet_of s) (drop (first * p) sums) (parity_of s - first) n _ _ _ _ (packet_pos s) long v.size v.packets step.1 in
+    rw (length-append c.found.yielded ((c.in-Some.i, c.in-Some.packet) ∷ [])) record {
+      count = let k = v.count in omega arith;
+      within = let lt = turn.lt in omega arith;
+      size = step.0 ∙ v.size;
+      packets = turn.left;
+      zeros = zeros_more s sums first p size c.requires.sums c.requires.first n _ turn.is (λ k h. c.loop-word.invariant.zeros k (let e = turn.long in omega arith)) v.zeros;
+      none = c.loop-word.invariant.none;
+    }
 
-pub returns : goal.returns
-returns c =
-    let v = c.packet-p.ensures in
-    let rest = drop (c.args.first * c.packet-p.result) c.args.sums.now in
-    let found = IsFirst-from_position {all = rest} _ _ _ (λ x. x ≢ 0) (λ x. x ≡ 0) c.position.ensures.ran (YieldsList-from_slice rest (c.iter.ensures.rest ∙ take_rest c.args.sums.now (c.args.first * c.packet-p.result))) (λ x q k. search (rules, tests)) (λ x q k. search (rules, tests)) in
-    let (lt, here, left) = rw c.in_ok-at.was at found in
-    first_at c.args.shape.now c.args.sums.now c.args.first c.packet-p.result v.value v.bounds.0 c.requires.sums c.requires.first c.in_ok-at.at lt here left
+pub returns-in-None : goal.returns-in-None
+returns-in-None c =
+    let s = c.args.shape.now in
+    let sums = c.args.sums.now in
+    let first = c.args.first in
+    let p = c.packet-p.result in
+    let size = c.packet-p.ensures.value in
+    let n = length c.found.yielded in
+    let v = c.found.invariant in
+    let (step, _) = c.in-None.ensures.steps in
+    let all : n ≡ parity_of s - first = chunks_done (packet_of s) (drop (first * p) sums) (parity_of s - first) n (packet_pos s) (rest_long s sums first p size c.requires.sums c.requires.first) (let w = v.within in omega arith) (ap length (sym v.packets) ∙ step.1.0) in
+    let end : first + n ≡ parity_of s = let w = v.within in omega arith in
+    rw v.none (subst (λ k. ZeroSums s sums first k) end v.zeros)
+
+pub returns-then-value-ne0 : goal.returns-then-value-ne0
+returns-then-value-ne0 c =
+    let s = c.args.shape.now in
+    let sums = c.args.sums.now in
+    let first = c.args.first in
+    let p = c.packet-p.result in
+    let size = c.packet-p.ensures.value in
+    let n = length c.found.yielded in
+    let v = c.found.invariant in
+    let (step, number, counted, _) = c.in-Some.ensures.steps in
+    let turn = chunk_turn (packet_of s) (drop (first * p) sums) (parity_of s - first) n _ _ _ _ (packet_pos s) (rest_long s sums first p size c.requires.sums c.requires.first) v.size v.packets step.1 in
+    let here : n ≡ c.in-Some.i = sym (number ∙ v.count) in
+    subst (λ k. FirstAt s sums first (first + k) c.loop-word.word) here
+    (first_at s sums first p size c.requires.sums c.requires.first n _ turn.is c.loop-word.word turn.lt (let e = turn.long in omega arith) c.loop-word.invariant.zeros c.if-value-ne0.true v.zeros)

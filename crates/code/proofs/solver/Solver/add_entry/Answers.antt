@@ -16,7 +16,7 @@ slice_bounds-add_times-end g c = let h = part_ends c.args.to _ c.packet-p.result
 
 pub returns : goal.returns
 returns g c =
-    let s = c.args.self.now.shape.now in
+    let s = c.args.self.now.code.shape.now in
     let C = code_of s g.F.Arithmetic.prod in
     let v = c.packet-p.result in
     let t = c.args.sums.now in

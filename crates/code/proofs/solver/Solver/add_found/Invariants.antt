@@ -4,4 +4,4 @@ use Rattle.code.proofs.solver.Solver.add_found.Given as goal
 
 abbrev pub invariant-loop-s : goal.invariant-loop-s
 invariant-loop-s g l =
-    (length l.sums ≡ length l.initial.sums) × FoundAdded l.self.shape.now g.F.Arithmetic.prod l.self.nodes l.self.count l.s l.initial.sums l.sums
+    (length l.sums ≡ length l.initial.sums) × FoundAdded l.self.code.shape.now g.F.Arithmetic.prod l.self.nodes l.self.losses.now.len l.s l.initial.sums l.sums

@@ -18,7 +18,7 @@ unfolding theta
 loop-j-preserved g c = λ e d.
     let f = g.F.Arithmetic in
     let field = g.met.F.Arithmetic.field in
-    let s = c.args.self.now.shape.now in
+    let s = c.args.self.now.code.shape.now in
     let C = code_of s f.prod in
     let x = c.args.self.now.nodes in
     let n = c.args.n in
@@ -45,7 +45,7 @@ loop-j-preserved g c = λ e d.
 pub returns : goal.returns
 returns g c =
     let f = g.F.Arithmetic in
-    let s = c.args.self.now.shape.now in
+    let s = c.args.self.now.code.shape.now in
     let C = code_of s f.prod in
     let x = c.args.self.now.nodes in
     let n = c.args.n in
@@ -60,10 +60,10 @@ returns g c =
     let long = part_length u n p fits in
     let y = c.add_words.new.target in
     let all : c.loop-j.j ≡ n = omega arith in
-    let started : Cleared s f.prod f.inv x c.args.self.now.count n z 0 e c.keep_first.new.sums =
+    let started : Cleared s f.prod f.inv x c.args.self.now.losses.now.len n z 0 e c.keep_first.new.sums =
     cleared_none v n z c.requires.some c.requires.n e c.keep_first.new.sums
     (λ i k h l. ap (λ r. packet_in s.words r i k) c.copy_from_slice.ensures.after ∙ entry_read s n p e size i k h l) (c.keep_first.ensures f.prod) in
-    let d : Cleared s f.prod f.inv x c.args.self.now.count n z n e u = rw all at (c.loop-j.invariant e started) in
+    let d : Cleared s f.prod f.inv x c.args.self.now.losses.now.len n z n e u = rw all at (c.loop-j.invariant e started) in
     record {
       keeps = cleared_all v n z c.requires.some c.requires.n e u _ d
           (λ i k h l. entry_written s n p u size _ y (omega arith) fits (omega arith) i k h l

@@ -6,5 +6,5 @@ use Rattle.code.proofs.solver.Solver.backward.Given as goal
 abbrev pub invariant-loop-j : goal.invariant-loop-j
 invariant-loop-j g l =
     let f = g.F.Arithmetic in
-    (e : List ℕ) → Cleared l.self.shape.now f.prod f.inv l.self.nodes l.self.count l.n (packet_in l.self.shape.now.words l.scratch) 0 e l.initial.sums
-    → Cleared l.self.shape.now f.prod f.inv l.self.nodes l.self.count l.n (packet_in l.self.shape.now.words l.scratch) l.j e l.sums
+    (e : List ℕ) → Cleared l.self.code.shape.now f.prod f.inv l.self.nodes l.self.losses.now.len l.n (packet_in l.self.code.shape.now.words l.scratch) 0 e l.initial.sums
+    → Cleared l.self.code.shape.now f.prod f.inv l.self.nodes l.self.losses.now.len l.n (packet_in l.self.code.shape.now.words l.scratch) l.j e l.sums

@@ -10,7 +10,7 @@ loop-j-init g c = (stages_start c.args.self.now.solvable c.args.sums.now, λ μ 
 
 pub loop-i-init : goal.loop-i-init
 loop-i-init g c = (
-  stage_starts c.args.self.now.solvable c.loop-j.sums (c.loop-j.j - 1) (c.args.self.now.count - c.loop-j.j) (omega arith),
+  rw c.count-t.ensures (stage_starts c.args.self.now.solvable c.loop-j.sums (c.loop-j.j - 1) (c.args.self.now.losses.now.len - c.loop-j.j) (omega arith)),
   λ μ h k i b p q. refl,
 )
 
@@ -18,11 +18,11 @@ pub loop-i-preserved : goal.loop-i-preserved
 loop-i-preserved g c =
     let f = g.F.Arithmetic in
     let v = c.args.self.now.solvable in
-    let s = c.args.self.now.shape.now in
+    let s = c.args.self.now.code.shape.now in
     let x = c.args.self.now.nodes in
     let j = c.loop-j.j in
     let i = c.loop-i.i in
-    let node : node_at x (j - 1) % 2 ^ f.bits ≡ node_at x (j - 1) = mod-eq_of_lt (rw (← c.args.self.now.width) (v.elements (j - 1))) in
+    let node : node_at x (j - 1) % 2 ^ f.bits ≡ node_at x (j - 1) = mod-eq_of_lt (rw (← c.args.self.now.code.width) (v.elements (j - 1))) in
     let d : Stepped s f.prod (node_at x (j - 1)) (i - 1) (i - 1 - 1) c.loop-i.sums c.add_entry.new.sums =
     subst (λ a. Stepped s f.prod a (i - 1) (i - 1 - 1) c.loop-i.sums c.add_entry.new.sums) node c.add_entry.ensures in (
       λ I. Iff.trans (c.loop-i.invariant.0 I) (stage_turn v (j - 1) (i - 1) (i - 1 - 1) (i - j) (i - 1 - j) (omega arith) (omega arith) (omega arith) (omega arith) _ _ d I),
@@ -37,10 +37,10 @@ loop-j-preserved g c = (
 )
 
 pub returns-clause-keeps : goal.returns-clause-keeps
-returns-clause-keeps g c = elim (dec_lt 0 c.args.self.now.count) [
+returns-clause-keeps g c = elim (dec_lt 0 c.args.self.now.losses.now.len) [
   | yes some ↦
-      let end = c.loop-j.auto.j-end some in
-      let e : c.args.self.now.count - 1 ≡ c.loop-j.j - 1 = omega arith in
+      let end = c.loop-j.auto.j-end (let e = c.count-t.ensures in omega arith) in
+      let e : c.args.self.now.losses.now.len - 1 ≡ c.loop-j.j - 1 = let t = c.count-t.ensures in omega arith in
       rw e c.loop-j.invariant.0
   | no none ↦ λ I. (λ _ m l. absurd (omega arith), λ _ m l. absurd (omega arith))
 ]

@@ -1,9 +1,11 @@
-use Rattle.std.proofs.Common.{◌≡◌, ◌<◌, length, get_or, set, sym, refl, ap, ◌∙◌, ap₂, mod-eq_of_lt, arith, length-set, get_or-set_other, get_or-set_same, pow_pos}
+use Rattle.std.proofs.Common.{◌≡◌, ℕ, ◌<◌, length, get_or, set, sym, refl, ap, ◌∙◌, ap₂, mod-eq_of_lt, arith, rules, length-set, get_or-set_other, get_or-set_same, pow_pos}
 use native.Mathlib.Decide.{ℕ_discrete, dec_lt}
 use Rattle.galois.specs.Field.{power}
 use Rattle.galois.proofs.Powers.{two_lt, power_lt}
 use Rattle.layout.specs.Sizes.{lost}
+use Rattle.code.specs.Solving.{node_at}
 use Rattle.layout.proofs.Parts.{get_or_zeros}
+use Rattle.layout.proofs.Passes.{losses_pass}
 use Rattle.code.proofs.Stages.{laws_of}
 use Rattle.code.proofs.Rebuilds.{lost_apart}
 use Rattle.code.proofs.solver.Solver.new.Goals as goal
@@ -28,23 +30,33 @@ loop-s-preserved g c =
       λ k h. get_or-set_other c.loop-s.nodes s k _ 0 (λ q. omega arith) ∙ c.loop-s.invariant.2 k (omega arith),
     )
 
+pub overflow_cast-p : goal.overflow_cast-p
+overflow_cast-p g c =
+    let shape = c.args.code.shape.now in
+    let lt : c.loop-s.s < c.args.losses.now.len = let e = c.positions-p-items.ensures.len in let h = c.loop-s-test.true in omega arith in
+    let below = (losses_pass shape c.args.losses.now (sym c.in_ok-check.ensures)).0 c.loop-s.s lt in
+    let is = c.positions-p-items.ensures.places c.loop-s.s lt in
+    search rules
+
 pub invariant_of-result : goal.invariant_of-result
 invariant_of-result g c =
     let f = g.F.Arithmetic in
-    let s = c.args.shape.now in
+    let s = c.args.code.shape.now in
     let l = c.args.losses.now in
-    let laws = laws_of s.rows f.bits f.prod f.inv c.requires.width g.met.F.Arithmetic.field in
-    let len = c.positions.ensures.len in
+    let laws = laws_of s.rows f.bits f.prod f.inv c.args.code.width g.met.F.Arithmetic.field in
+    let (below, few) = losses_pass s l (sym c.in_ok-check.ensures) in
     let all : c.loop-s.s ≡ l.len = let e = c.positions-p-items.ensures.len in omega arith in
+    let at : (k : ℕ) → k < l.len → node_at c.loop-s.nodes k ≡ power f.prod 2 (lost l k) = λ k h. c.loop-s.invariant.1 k (omega arith) in
     record {
-      width = c.requires.width;
+      below = below;
+      at = at;
       solvable = record {
         laws = laws;
-        few = let k = c.requires.few in omega arith;
+        few = few;
         elements = λ k. elim (dec_lt k c.loop-s.s) [
           | yes h ↦ rw (c.loop-s.invariant.1 k h) (power_lt laws 2 (lost l k) (two_lt laws))
           | no h ↦ rw (c.loop-s.invariant.2 k (omega arith)) (pow_pos s.rows)
         ];
-        apart = rw len (lost_apart s f.prod f.inv laws l c.requires.below c.loop-s.nodes (λ k h. c.loop-s.invariant.1 k (omega arith)));
+        apart = lost_apart s f.prod f.inv laws l below c.loop-s.nodes at;
       };
     }

@@ -11,9 +11,9 @@ loop-n-preserved g c = (
 )
 
 pub returns-clause-solved : goal.returns-clause-solved
-returns-clause-solved g c = λ I. elim (dec_lt 0 c.args.self.now.count) [
+returns-clause-solved g c = λ I. elim (dec_lt 0 c.args.self.now.losses.now.len) [
   | yes some ↦
-      Iff.trans (c.forward.ensures.keeps I) (Iff.trans (found_starts c.args.self.now.solvable _ (c.args.self.now.count - 1) (omega arith) I)
+      Iff.trans (c.forward.ensures.keeps I) (Iff.trans (found_starts c.args.self.now.solvable _ (c.args.self.now.losses.now.len - 1) (omega arith) I)
       (Iff.trans (c.loop-n.invariant.0 I) (found_ends c.args.self.now.solvable _ (c.loop-n.n - 1) (omega arith) I)))
   | no none ↦ (λ _ m l. absurd (omega arith), λ _ m l. absurd (omega arith))
 ]

@@ -9,7 +9,7 @@ use Rattle.layout.proofs.Places.{part_ends}
 use Rattle.layout.proofs.Parts.{part_length}
 use Rattle.layout.proofs.Entries.{entry_read}
 use Rattle.code.proofs.Absorbs.{absorbed_none, absorbed_more}
-use Rattle.code.proofs.sums.add_packet.Goals as goal
+use Rattle.code.proofs.code.Code.add_packet.Goals as goal
 
 pub slice_bounds-add_times-end : goal.slice_bounds-add_times-end
 slice_bounds-add_times-end g c = let h = part_ends c.loop-sum.sum _ c.packet-p.result c.parity-sum-end.ensures c.packet-p.ensures.value c.requires.sums c.loop-sum-test.true in search rules
@@ -23,7 +23,7 @@ unfolding power
 loop-sum-preserved g c =
     let f = g.F.Arithmetic in
     let laws = g.met.F.Arithmetic.field in
-    let s = c.args.shape.now in
+    let s = c.args.self.now.shape.now in
     let x = c.args.x in
     let n = c.loop-sum.sum in
     let v = c.packet-p.result in

@@ -2,19 +2,17 @@ use Rattle.std.proofs.Common.{◌≡◌, ◌+◌, [], ◌∷◌, length, sym, re
 use Rattle.layout.specs.Sizes.{packet_of, packets_in, lost}
 use Rattle.layout.specs.Blocks.{packet_in}
 use Rattle.layout.proofs.Entries.{entry_read}
-use Rattle.layout.proofs.Passes.{passed}
 use Rattle.layout.proofs.Blocks.{packet_pos}
 use Rattle.algebra.specs.Code.{among}
 use Rattle.code.specs.Sums.{Gained}
 use Rattle.code.proofs.Chunks.{chunk_turn, chunks_done}
-use Rattle.code.proofs.Passes.{absorb_passes}
 use Rattle.code.proofs.Held.{summed_lost, summed_held}
-use Rattle.code.proofs.block.absorb_held.Goals as goal
+use Rattle.code.proofs.solver.Solver.absorb_held.Goals as goal
 
 pub loop-i-preserved : goal.loop-i-preserved
 loop-i-preserved g c =
-    let s = c.args.shape.now in
-    let l = c.args.losses.now in
+    let s = c.args.self.now.code.shape.now in
+    let l = c.args.self.now.losses.now in
     let run = c.args.run.now in
     let n = length c.loop-i.yielded in
     let v = c.loop-i.invariant in
@@ -30,11 +28,24 @@ loop-i-preserved g c =
           (ap (λ k. among (lost l) l.len (c.args.start + k)) here ∙ sym c.contains.ensures ∙ c.if-not-contains.false);
     }
 
-pub loop-i-preserved-in-Continue-1 : goal.loop-i-preserved-in-Continue-1
-loop-i-preserved-in-Continue-1 g c =
+pub absorb-requires : goal.absorb-requires
+absorb-requires g c =
+    let s = c.args.self.now.code.shape.now in
+    let run = c.args.run.now in
+    let v = c.loop-i.invariant in
+    let (step, number, _, _) = c.in-Some.ensures.steps in
+    let turn = chunk_turn (packet_of s) run (packets_in s run) (length c.loop-i.yielded) _ _ _ _ (packet_pos s) c.requires.run v.size v.packets step.1 in
+    record {
+      sums = c.loop-i.auto.sums ∙ c.requires.sums;
+      position = let lt = turn.lt in let k = v.count in omega arith;
+      packet = turn.long;
+    }
+
+pub loop-i-preserved-then-not-contains : goal.loop-i-preserved-then-not-contains
+loop-i-preserved-then-not-contains g c =
     let prod = g.F.Arithmetic.prod in
-    let s = c.args.shape.now in
-    let l = c.args.losses.now in
+    let s = c.args.self.now.code.shape.now in
+    let l = c.args.self.now.losses.now in
     let run = c.args.run.now in
     let n = length c.loop-i.yielded in
     let v = c.loop-i.invariant in
@@ -50,23 +61,12 @@ loop-i-preserved-in-Continue-1 g c =
       summed = summed_held s prod l c.args.start n run c.args.sums.now c.loop-i.sums v.summed p c.absorb.new.sums
           (ap (λ k. among (lost l) l.len (c.args.start + k)) here ∙ sym c.contains.ensures ∙ c.if-not-contains.true)
           (λ i k h m. ap (λ z. packet_in s.words z i k) turn.is ∙ entry_read s n (packet_of s) run refl i k h m)
-          (subst (λ k. Gained s prod (c.args.start + k) p c.loop-i.sums c.absorb.new.sums) (sym here) c.in_ok-absorb.ensures.after);
+          (subst (λ k. Gained s prod (c.args.start + k) p c.loop-i.sums c.absorb.new.sums) (sym here) c.absorb.ensures);
     }
-
-pub returns-in_err-absorb : goal.returns-in_err-absorb
-returns-in_err-absorb g c =
-    let s = c.args.shape.now in
-    let run = c.args.run.now in
-    let v = c.loop-i.invariant in
-    let (step, number, _, _) = c.in-Some.ensures.steps in
-    let turn = chunk_turn (packet_of s) run (packets_in s run) (length c.loop-i.yielded) _ _ _ _ (packet_pos s) c.requires.run v.size v.packets step.1 in
-    let lt = turn.lt in
-    let k = v.count in
-    passed _ _ (absorb_passes g.F.Arithmetic.bits s c.requires.width c.loop-i.sums (c.loop-i.auto.sums ∙ c.requires.sums) (c.args.start + c.in-Some.i) _ (omega arith) turn.long) c.in_err-absorb.ensures.answer
 
 pub returns : goal.returns
 returns g c =
-    let s = c.args.shape.now in
+    let s = c.args.self.now.code.shape.now in
     let run = c.args.run.now in
     let v = c.loop-i.invariant in
     let (step, _) = c.in-None.ensures.steps in
