@@ -83,7 +83,7 @@ fn serve<F: Arithmetic + Drop, S: SlotStore + Drop>(
     Ok(())
 }
 
-// Serves over the store that is asked for.
+// Serves over the store that is asked for. Each arm has a store of another type, so no table of stores will do.
 fn over<F: Arithmetic + Drop>(
     rt: &HostRuntime,
     arithmetic: F,
@@ -138,6 +138,7 @@ fn run(rt: &HostRuntime) -> anyhow::Result<()> {
     let Some(place) = heading(rt, &mut input, Place::parse)? else {
         return Ok(());
     };
+    // Each arm has an arithmetic of another type.
     match setting {
         Setting::Nibble => over(
             rt,

@@ -1,8 +1,5 @@
-mod Meanings
-mod Starts
 mod Slots
 mod Counts
-mod Fetches
 mod Missing
 mod Reading
 mod Putting

@@ -1,21 +1,18 @@
 -- Packets put into the slots of a block at the lost positions, one after another.
-use Rattle.std.proofs.Common.{◌≡◌, ℕ, suc, ◌+◌, ◌*◌, ◌<◌, Bool, true, false, not, eqb, ltb, List, length, is_some, Some, None, sym, refl, ap, ◌∙◌, add-one, arith}
+use Rattle.std.proofs.Common.{◌≡◌, ℕ, suc, ◌+◌, ◌*◌, ◌<◌, true, not, List, length, is_some, Some, None, Option, sym, refl, ap, ◌∙◌, add-one, arith}
 use native.Mathlib.Decide.{ℕ_discrete}
 use Rattle.std.specs.List.{between}
-use Rattle.std.proofs.lemmas.Bool.{cond-true, cond-false, and_from, lt-ltb, eq-eqb}
 use Rattle.algebra.specs.Code.{among}
-use Rattle.algebra.proofs.Marks.{among_at, among_find, among_next}
+use Rattle.algebra.proofs.Marks.{true_false, among_at, among_find, among_next}
 use Rattle.layout.specs.declared.shape.Shape.{Shape}
 use Rattle.layout.specs.declared.losses.LossList.{LossList}
 use Rattle.layout.specs.Sizes.{packet_of, lost}
-use Rattle.store.specs.Grids.{Grid, Filled, inside, put_refusal}
-use Rattle.receiver.specs.Sound.{Fitted}
-use Rattle.receiver.specs.Blocks.{Missing}
-use Rattle.receiver.specs.Steps.{Put}
+use Rattle.store.specs.Grids.{Grid, Filled, put_refusal}
+use Rattle.receiver.specs.Steps.{Lacks, Put}
 
-pub not_true : (b : Bool) → true ≡ not b → b ≡ false
-not_true true e = e
-not_true false e = refl
+none_from : (o : Option (List ℕ)) → true ≡ not (is_some o) → o ≡ None
+none_from None e = refl
+none_from (Some ws) e = absurd (let z : ◌≡◌ {A = ℕ} 0 1 = cc in omega arith)
 
 module _ (s : Shape) (l : LossList) (i : ℕ) (run : List ℕ) (g : Grid) where
   pub put_none : Put s l i 0 run g g
@@ -38,19 +35,19 @@ module _ (s : Shape) (l : LossList) (i : ℕ) (run : List ℕ) (g : Grid) where
         ∙ p.off a b (λ z e. let m = among_find (lost l) n b e in next (ap (among (lost l) (suc n)) (sym m.2) ∙ among_at (lost l) (suc n) m.0 (let k = m.1 in omega arith)) z);
   }
 
-  module _ (bits : ℕ) (F : Fitted bits s g) (row : i < s.blocks) (M : Missing s g i l) where
+  module _ (A : Lacks s g i l) where
     -- the slot of a lost position was empty
-    pub was_empty : (n : ℕ) → n < l.len → is_some (g.slots i (lost l n)) ≡ false
-    was_empty n h = not_true _ (sym (among_at (lost l) l.len n h) ∙ M.same (lost l n) (M.below n h))
+    pub was_empty : (n : ℕ) → n < l.len → g.slots i (lost l n) ≡ None
+    was_empty n h = let M = A.missing in none_from _ (sym (among_at (lost l) l.len n h) ∙ M.same (lost l n) (M.below n h))
 
     -- the next packet can be put
     pub put_passes : (n : ℕ) (ws : List ℕ) (h : Grid) → n < l.len → length ws ≡ packet_of s → Put s l i n run g h → put_refusal h i (lost l n) ws ≡ None
     put_passes n ws h lt long p =
         let q = lost l n in
-        let lq = M.below n lt in
-        let within : inside h i q ≡ true =
-        and_from (ltb i h.rows) (ltb q h.columns) (lt-ltb i h.rows (let e = p.rows_same in let f = F.rows in omega arith)) (lt-ltb q h.columns (let e = p.columns_same in let f = F.columns in omega arith)) in
-        let still : h.slots i q ≡ g.slots i q = p.off i q (λ _ e. let z : ◌≡◌ {A = ℕ} 0 1 = (let f = among_next (lost l) n (λ a b u v. l.ascends a b u (omega arith)) in cc) in omega arith) in
-        cond-true (inside h i q) _ _ within
-        ∙ cond-true (eqb (length ws) h.size) _ _ (eq-eqb (length ws) h.size (long ∙ sym (p.size_same ∙ F.size)))
-        ∙ cond-false (is_some (h.slots i q)) _ _ (ap is_some still ∙ was_empty n lt)
+        let F = A.fitted in
+        let row : i < h.rows = let e = p.rows_same in let f = F.rows in let k = A.inside in omega arith in
+        let column : q < h.columns = let e = p.columns_same in let f = F.columns in let k = A.missing.below n lt in omega arith in
+        let next = among_next (lost l) n (λ a b u v. l.ascends a b u (omega arith)) in
+        let empty : h.slots i q ≡ None = p.off i q (λ _ e. true_false _ e next) ∙ was_empty n lt in
+        let size : length ws ≡ h.size = long ∙ sym (p.size_same ∙ F.size) in
+        grind (arith, row, column, size, empty)

@@ -1,11 +1,11 @@
 -- What the calls of a receiver answer, and what they leave behind. A receiver is spoken of by its meaning.
-use Rattle.std.specs.Prelude.{◌≡◌, ℕ, ◌*◌, ◌<◌, Bool, true, false, cond, ◌&&◌, List, [], ◌∷◌, length, is_some, Some, None, Ok, Err, Option, Result, ◌==◌, nat_lt}
+use Rattle.std.specs.Prelude.{◌≡◌, ℕ, ◌*◌, ◌<◌, Bool, true, false, cond, ◌&&◌, List, [], ◌∷◌, is_some, Some, None, Ok, Err, Option, Result, ◌==◌, nat_lt}
 use Rattle.refusal.specs.declared.Refusal.{Refusal}
 use Rattle.refusal.specs.declared.Refusal.TheVariants.{NoShape}
 use Rattle.refusal.specs.Numbers.{said, or_else}
 use Rattle.layout.specs.declared.shape.Dimensions.{Dimensions}
 use Rattle.layout.specs.declared.shape.Shape.{Shape}
-use Rattle.layout.specs.Sizes.{packet_of}
+use Rattle.layout.specs.Checks.{run_refusal}
 use Rattle.layout.specs.Made.{dimensions_of, shape_refusal}
 use Rattle.algebra.specs.Code.{count}
 use Rattle.store.specs.Grids.{Grid, format_refusal, get_refusal, Emptied, Filled}
@@ -30,13 +30,17 @@ ShapeSaid o (Err e) = (o ≡ None) × (e ≡ NoShape)
 abbrev pub block_refusal : Shape → ℕ → Option (ℕ × List ℕ)
 block_refusal s i = cond (nat_lt i s.blocks) None (Some (11, []))
 
+-- refusal 11, unless the shape has the position
+abbrev pub position_refusal : Shape → ℕ → Option (ℕ × List ℕ)
+position_refusal s j = cond (nat_lt j s.positions) None (Some (11, []))
+
 -- refusal 11, unless the shape has the block and the position
 abbrev pub place_refusal : Shape → ℕ → ℕ → Option (ℕ × List ℕ)
-place_refusal s i j = cond (nat_lt i s.blocks && nat_lt j s.positions) None (Some (11, []))
+place_refusal s i j = or_else (block_refusal s i) (position_refusal s j)
 
 -- refusal 5 at place 0, unless there are just the words of a packet
 abbrev pub length_refusal : Shape → List ℕ → Option (ℕ × List ℕ)
-length_refusal s ws = cond (length ws == packet_of s) None (Some (5, 0 ∷ []))
+length_refusal s ws = run_refusal s 1 ws 0
 
 -- TAKE
 
@@ -129,10 +133,13 @@ abbrev pub empty_refusal : Option (List ℕ) → Option (ℕ × List ℕ)
 empty_refusal None = Some (23, [])
 empty_refusal (Some ws) = None
 
+-- the refusal of a read from a block of the shape
+abbrev pub read_refusal : Shape → Grid → ℕ → ℕ → List ℕ → Option (ℕ × List ℕ)
+read_refusal s g i j run = or_else (position_refusal s j) (or_else (length_refusal s run) (empty_refusal (g.slots i j)))
+
 -- the refusal of a fetch
 abbrev pub fetch_refusal : Meaning → ℕ → ℕ → List ℕ → Option (ℕ × List ℕ)
-fetch_refusal m i j run =
-    of_shape m.shape (λ s. or_else (place_refusal s i j) (or_else (length_refusal s run) (empty_refusal (m.grid.slots i j))))
+fetch_refusal m i j run = of_shape m.shape (λ s. or_else (block_refusal s i) (read_refusal s m.grid i j run))
 
 -- COUNT
 

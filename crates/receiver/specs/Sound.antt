@@ -9,14 +9,13 @@ pub record IsPacket (s : Shape) (ws : List ℕ) : Type 0 where
   pub long : length ws ≡ packet_of s
   pub words : (k : ℕ) → slice_index ws k < 2 ^ 32
 
--- the shape is one for the arithmetic, the grid has its sizes, and each filled slot holds one of its packets
-pub record Fitted (bits : ℕ) (s : Shape) (g : Grid) : Type 0 where
-  pub width : s.rows ≡ bits
+-- the grid has the shape's sizes, and each filled slot holds one of its packets
+pub record Fitted (s : Shape) (g : Grid) : Type 0 where
   pub rows : g.rows ≡ s.blocks
   pub columns : g.columns ≡ s.positions
   pub size : g.size ≡ packet_of s
   pub packets : (i j : ℕ) (ws : List ℕ) → g.slots i j ≡ Some ws → IsPacket s ws
 
--- if a shape is set, then the store has been formatted for it
+-- if a shape is set, then it is one for the arithmetic, and the store has been formatted for it
 abbrev pub Sound : ℕ → Option Shape → Grid → Type 0
-Sound bits shape g = (s : Shape) → shape ≡ Some s → Fitted bits s g
+Sound bits shape g = (s : Shape) → shape ≡ Some s → (s.rows ≡ bits) × Fitted s g

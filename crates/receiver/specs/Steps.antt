@@ -15,6 +15,12 @@ use Rattle.receiver.specs.Sound.{Fitted}
 use Rattle.receiver.specs.Blocks.{block_of, Missing}
 use Rattle.receiver.specs.Repairs.{few_refusal, Completes}
 
+-- the grid fits the shape, block i lies inside, and the list has what the block misses
+pub record Lacks (s : Shape) (g : Grid) (i : ℕ) (l : LossList) : Type 0 where
+  pub fitted : Fitted s g
+  pub inside : i < s.blocks
+  pub missing : Missing s g i l
+
 -- the positions that are missing, or refusal 7 if they are too many
 abbrev pub Listed : Shape → Grid → ℕ → Result LossList Refusal → Type 0
 Listed s g i (Ok l) = Missing s g i l × (few_refusal s g i ≡ None)
@@ -39,6 +45,6 @@ AllPut s l i run g h (Ok u) = Put s l i l.len run g h
 AllPut s l i run g h (Err e) = ⊥
 
 -- the block is completed, or its packets contradict each other and nothing changed
-abbrev pub Mended : ℕ → Shape → (ℕ → ℕ → ℕ) → LossList → Grid → ℕ → Result Whole Refusal → Grid → Type 0
-Mended bits s prod l g i (Ok w) h = (w.restored ≡ l.len) × Completes s prod g i h × Fitted bits s h
-Mended bits s prod l g i (Err e) h = NoPackets s prod l (block_of s g i) (said e) × (h ≡ g)
+abbrev pub Mended : Shape → (ℕ → ℕ → ℕ) → LossList → Grid → ℕ → Result Whole Refusal → Grid → Type 0
+Mended s prod l g i (Ok w) h = (w.restored ≡ l.len) × Completes s prod g i h × Fitted s h
+Mended s prod l g i (Err e) h = NoPackets s prod l (block_of s g i) (said e) × (h ≡ g)

@@ -1,8 +1,10 @@
-// A receiver before its first frame.
-ghost use Rattle.std.specs.Prelude.{◌≡◌, None};
-ghost use Rattle.receiver.specs.Calls.{ShapeSaid};
+// A receiver before its first frame, and what it refuses then.
+ghost use Rattle.std.specs.Prelude.{◌≡◌, None, Some, IfOk};
+ghost use Rattle.refusal.specs.Numbers.{refused_with};
+ghost use Rattle.receiver.specs.Calls.{ShapeSaid, of_shape, block_refusal};
 
 use crate::Receiver;
+use crate::stored::StoredBlock;
 use field::Arithmetic;
 use layout::shape::Shape;
 use refusal::Refusal;
@@ -26,5 +28,21 @@ impl<F: Arithmetic, S: SlotStore> Receiver<F, S> {
         ensures { ShapeSaid self.now.shape result }
     {
         self.shape.ok_or(Refusal::NoShape)
+    }
+
+    // A block of the shape; refused while none is set, and outside the shape.
+    pub(crate) fn block(&self, block: usize) -> Result<StoredBlock<'_, S>, Refusal>
+        ensures answer { refused_with result ≡ of_shape self.now.shape (λ s. block_refusal s block) }
+        ensures of { IfOk result (λ stored. (self.now.shape ≡ Some stored.shape) × (stored.block ≡ block) × (stored.store.now ≡ self.now.store)) }
+    {
+        let shape = self.shape()?;
+        if block >= shape.blocks() {
+            return Err(Refusal::OutsideShape);
+        }
+        Ok(StoredBlock {
+            store: &self.store,
+            shape,
+            block,
+        })
     }
 }

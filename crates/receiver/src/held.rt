@@ -9,7 +9,6 @@ use crate::Receiver;
 use field::Arithmetic;
 use refusal::Refusal;
 use store::SlotStore;
-use store::slots::Slot;
 
 impl<F: Arithmetic, S: SlotStore> Receiver<F, S> {
     // Copies the packet of a block and a position into `run`.
@@ -17,18 +16,7 @@ impl<F: Arithmetic, S: SlotStore> Receiver<F, S> {
         ensures answer { refused_with result ≡ fetch_refusal (means self.now) block position run.old }
         ensures after { run.new ≡ after_get result (S.SlotStore.grid self.now.store) block position run.old }
     {
-        let shape = self.shape()?;
-        if block >= shape.blocks() || position >= shape.positions() {
-            return Err(Refusal::OutsideShape);
-        }
-        if run.len() != shape.packet() {
-            return Err(Refusal::WrongRun { place: 0 });
-        }
-        let slot = Slot {
-            row: block,
-            column: position,
-        };
-        self.store.get(slot, run)
+        self.block(block)?.get(position, run)
     }
 
     // How many positions of a block are held.
@@ -36,20 +24,6 @@ impl<F: Arithmetic, S: SlotStore> Receiver<F, S> {
         ensures answer { refused_with result ≡ count_refusal (means self.now) block }
         ensures counted { Counted (means self.now) block result }
     {
-        let shape = self.shape()?;
-        if block >= shape.blocks() {
-            return Err(Refusal::OutsideShape);
-        }
-        let mut held = 0;
-        for position in 0..shape.positions() {
-            let slot = Slot {
-                row: block,
-                column: position,
-            };
-            if self.store.held(slot)? {
-                held += 1;
-            }
-        }
-        Ok(held)
+        self.block(block)?.count()
     }
 }

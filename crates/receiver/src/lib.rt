@@ -10,17 +10,19 @@ use store::SlotStore;
 pub mod blank;
 pub mod held;
 pub mod repair;
+mod stored;
 pub mod take;
 #[cfg(test)]
 mod tests;
 
 // Keeps the packets of one transmission at a time. It is blank until a shape is set.
+// Its meaning leaves out the lock, which not every store has: the calls that write have a clause for it, `shut`.
 #[derive(Drop)]
 pub struct Receiver<F: Arithmetic, S: SlotStore> {
     arithmetic: F,
     store: S,
     shape: Option<Shape>,
-    // The store fits the shape, once one is set.
+    // Once a shape is set, it is one for the arithmetic, and the store fits it.
     ghost sound: { Sound F.Arithmetic.bits shape (S.SlotStore.grid store) },
 }
 

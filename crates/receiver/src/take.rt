@@ -21,6 +21,7 @@ impl<F: Arithmetic, S: SlotStore> Receiver<F, S> {
         ensures shut { S.SlotStore.lock self.old.store ≡ 0 → S.SlotStore.lock self.new.store ≡ 0 }
     {
         let shape = Shape::new::<F>(dimensions)?;
+        // Made here, since neither a shape nor a format knows the other.
         self.store.format(Format {
             rows: shape.blocks(),
             columns: shape.positions(),
@@ -55,16 +56,8 @@ impl<F: Arithmetic, S: SlotStore> Receiver<F, S> {
         ensures after { TookPacket (means self.old) block position payload.now result (means self.new) }
         ensures shut { S.SlotStore.lock self.old.store ≡ 0 → S.SlotStore.lock self.new.store ≡ 0 }
     {
-        if payload.len() != shape.packet() {
-            return Err(Refusal::WrongRun { place: 0 });
-        }
-        if block >= shape.blocks() || position >= shape.positions() {
-            return Err(Refusal::OutsideShape);
-        }
-        let slot = Slot {
-            row: block,
-            column: position,
-        };
+        shape.check_run(1, payload, 0)?;
+        let slot = self.block(block)?.slot(position)?;
         if self.store.held(slot)? {
             if self.holds(slot, payload)? {
                 return Ok(Taken::Known);

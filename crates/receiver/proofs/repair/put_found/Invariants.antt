@@ -11,9 +11,9 @@ invariant-loop-at g l =
     record {
       places : l.at-iterator.a.rest.now ≡ drop n (lost_at l.losses);
       size : l.at-iterator.b.size ≡ packet_of l.shape;
-      packets : l.at-iterator.b.rest.now ≡ drop (n * packet_of l.shape) l.run;
+      packets : l.at-iterator.b.rest.now ≡ drop (n * packet_of l.shape) l.work;
       within : n ≤ l.losses.len;
-      put : Put l.shape l.losses l.block n l.run (T.grid l.initial.store) (T.grid l.store);
+      put : Put l.shape l.losses l.block n l.work (T.grid l.initial.store) (T.grid l.store);
       kept : T.capacity l.store ≡ T.capacity l.initial.store;
       shut : T.lock l.initial.store ≡ 0 → T.lock l.store ≡ 0;
     }

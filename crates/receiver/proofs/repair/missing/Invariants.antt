@@ -1,6 +1,0 @@
-use Rattle.receiver.specs.Calls.{held_in}
-use Rattle.receiver.proofs.Missing.{Collected}
-use Rattle.receiver.proofs.repair.missing.Given as goal
-
-abbrev pub invariant-loop-position : goal.invariant-loop-position
-invariant-loop-position g l = Collected (held_in (g.S.SlotStore.grid l.store) l.block) l.position l.shape l.losses

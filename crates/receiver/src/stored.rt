@@ -1,0 +1,132 @@
+// A block of packets in a store.
+ghost use Rattle.std.specs.Prelude.{◌≡◌, ◌+◌, ◌<◌, length, Ok, IfOk};
+ghost use Rattle.refusal.specs.Numbers.{refused_with};
+ghost use Rattle.algebra.specs.Code.{count};
+ghost use Rattle.layout.specs.Sizes.{parity_of, packet_of, Packets};
+ghost use Rattle.layout.specs.Blocks.{ZeroRun};
+ghost use Rattle.store.specs.Grids.{after_get};
+ghost use Rattle.code.specs.Lost.{FoundLost};
+ghost use Rattle.receiver.specs.Sound.{Fitted};
+ghost use Rattle.receiver.specs.Calls.{position_refusal, read_refusal, held_in};
+ghost use Rattle.receiver.specs.Blocks.{block_of, Missing};
+ghost use Rattle.receiver.specs.Steps.{Listed, HeldSummed};
+
+use code::rebuild::rebuild;
+use code::sums::absorb;
+use field::Arithmetic;
+use layout::losses::LossList;
+use layout::runs::clear;
+use layout::shape::Shape;
+use refusal::Refusal;
+use store::SlotStore;
+use store::slots::Slot;
+
+// A block of a shape: the store fits the shape, and the block lies inside.
+#[derive(Drop)]
+pub(crate) struct StoredBlock<'a, S: SlotStore> {
+    pub(crate) store: &'a S,
+    pub(crate) shape: Shape,
+    pub(crate) block: usize,
+    ghost fitted: { Fitted shape (S.SlotStore.grid store.now) },
+    ghost inside: { block < shape.blocks },
+}
+
+impl<'a, S: SlotStore> StoredBlock<'a, S> {
+    // The slot of a position; refused outside the shape.
+    pub(crate) fn slot(&self, position: usize) -> Result<Slot, Refusal>
+        ensures answer { refused_with result ≡ position_refusal self.now.shape position }
+        ensures at { IfOk result (λ slot. (slot.row ≡ self.now.block) × (slot.column ≡ position)) }
+    {
+        if position >= self.shape.positions() {
+            return Err(Refusal::OutsideShape);
+        }
+        Ok(Slot {
+            row: self.block,
+            column: position,
+        })
+    }
+
+    // Copies the packet of a position into `run`.
+    pub(crate) fn get(&self, position: usize, run: &mut [u32]) -> Result<(), Refusal>
+        ensures answer { refused_with result ≡ read_refusal self.now.shape (S.SlotStore.grid self.now.store.now) self.now.block position run.old }
+        ensures after { run.new ≡ after_get result (S.SlotStore.grid self.now.store.now) self.now.block position run.old }
+    {
+        let slot = self.slot(position)?;
+        self.shape.check_run(1, run, 0)?;
+        self.store.get(slot, run)
+    }
+
+    // Whether a position is held.
+    fn held(&self, position: usize) -> Result<bool, Refusal>
+        requires { position < self.now.shape.positions }
+        ensures { result ≡ Ok (held_in (S.SlotStore.grid self.now.store.now) self.now.block position) }
+    {
+        self.store.held(self.slot(position)?)
+    }
+
+    // How many positions are held.
+    pub(crate) fn count(&self) -> Result<usize, Refusal>
+        ensures { result ≡ Ok (count (held_in (S.SlotStore.grid self.now.store.now) self.now.block) self.now.shape.positions) }
+    {
+        // A loop, since nothing tells the closure of a `try_fold` that its number so far is small enough to be raised.
+        let mut held = 0;
+        for position in 0..self.shape.positions() {
+            if self.held(position)? {
+                held += 1;
+            }
+        }
+        Ok(held)
+    }
+
+    // The positions that are not held; refused if these are too many.
+    pub(crate) fn missing(&self) -> Result<LossList, Refusal>
+        ensures { Listed self.now.shape (S.SlotStore.grid self.now.store.now) self.now.block result }
+    {
+        let mut losses = LossList::none();
+        for position in 0..self.shape.positions() {
+            if !self.held(position)? {
+                losses.push(&self.shape, position)?;
+            }
+        }
+        Ok(losses)
+    }
+
+    // Adds the packets that are held to sums that are zero at first, each by way of `scratch`. Apart from the same step over a block
+    // run in `code`, since a run lends its packets, where a store copies them and may refuse.
+    fn absorb_held<F: Arithmetic>(
+        &self,
+        sums: &mut [u32],
+        scratch: &mut [u32],
+    ) -> Result<(), Refusal>
+        requires width { self.now.shape.rows ≡ F.Arithmetic.bits }
+        requires sums { Packets self.now.shape (parity_of self.now.shape) sums.old }
+        requires zero { ZeroRun sums.old }
+        requires scratch { length scratch.old ≡ packet_of self.now.shape }
+        ensures { HeldSummed self.now.shape F.Arithmetic.prod (S.SlotStore.grid self.now.store.now) self.now.block sums.new result }
+    {
+        for position in 0..self.shape.positions() {
+            if self.held(position)? {
+                self.get(position, scratch)?;
+                absorb::<F>(&self.shape, sums, position, scratch)?;
+            }
+        }
+        Ok(())
+    }
+
+    // Finds the missing packets: they stand in the first places of the work run afterwards.
+    pub(crate) fn find_missing<F: Arithmetic>(
+        &self,
+        losses: &LossList,
+        work: &mut [u32],
+    ) -> Result<(), Refusal>
+        requires width { self.now.shape.rows ≡ F.Arithmetic.bits }
+        requires missing { Missing self.now.shape (S.SlotStore.grid self.now.store.now) self.now.block losses.now }
+        requires work { Packets self.now.shape (parity_of self.now.shape + 1) work.old }
+        ensures { FoundLost self.now.shape F.Arithmetic.prod losses.now (block_of self.now.shape (S.SlotStore.grid self.now.store.now) self.now.block) work.new result }
+    {
+        clear(work);
+        let (sums, scratch) = work.split_at_mut(self.shape.parity() * self.shape.packet());
+        self.absorb_held::<F>(sums, scratch)?;
+        rebuild::<F>(&self.shape, losses, sums, scratch)
+    }
+}
