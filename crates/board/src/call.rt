@@ -109,6 +109,7 @@ fn frame(heap: Global, digits: &[&str]) -> Result<Vec<u32>, Error> {
     Ok(frame)
 }
 
+// Functions and no `TryFrom`: the words of a line are collected on a heap, which has to be passed.
 impl Setting {
     pub fn parse(heap: Global, line: &str) -> Result<Setting, Error> {
         let parts: Vec<&str> = line.split_whitespace().collect(heap)?;

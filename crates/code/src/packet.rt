@@ -22,7 +22,7 @@ pub(crate) fn add_words(target: &mut [u32], source: &[u32])
     requires { length target.old ≡ length source.now }
     ensures { (c : ℕ) → c < length source.now → slice_index target.new c ≡ bit_xor (slice_index target.old c) (slice_index source.now c) }
 {
-    // By index: of words that `iter_mut().zip(..)` wrote to, nothing is known afterwards.
+    // By index: of words that `iter_mut().zip(..)` wrote to, only the length is known afterwards.
     for (i, word) in source.iter().enumerate() {
         target[i] ^= *word;
     }
@@ -49,7 +49,7 @@ fn add_product(columns: &[u32; 10], shape: &Shape, source: &[u32], target: &mut 
     ensures { (i c : ℕ) → i < shape.now.rows → c < shape.now.words → packet_in shape.now.words target.new i c ≡ bit_xor (packet_in shape.now.words target.old i c) (selected shape.now.rows columns.now i (packet_in shape.now.words source.now) c) }
 {
     let w = shape.words();
-    // By index: of a run that `chunks_mut` lent, nothing is known afterwards.
+    // By index: of a run that `chunks_mut` lent, only the length is known afterwards.
     for i in 0..shape.rows() {
         add_selected(columns, i, shape, source, &mut target[i * w..i * w + w]);
     }

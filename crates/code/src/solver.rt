@@ -19,7 +19,8 @@ use layout::shape::Shape;
 use refusal::Refusal;
 
 // The lost packets of a block, to be found from its sums, with the node α^p of each lost position p. The sums and a packet of
-// scratch are lent to each step: a solver that held them would have to promise at each step that it holds the same runs still.
+// scratch are lent to each step, and so are the block and the work run of the calls: a struct that held runs would have to promise at
+// each step that they are the same still, and of the same length.
 #[derive(Drop)]
 pub(crate) struct Solver<'a, F: Arithmetic> {
     pub(crate) code: Code<'a, F>,
@@ -50,7 +51,7 @@ impl<'a, F: Arithmetic> Solver<'a, F> {
     {
         losses.check(code.shape)?;
         let mut nodes = [0; 32];
-        // By index: of an array that `iter_mut().zip(..)` wrote to, nothing is known afterwards; and by `from_fn` every place would
+        // By index: of what `iter_mut().zip(..)` wrote, nothing is known afterwards; and by `from_fn` every place would
         // have to ask whether there is a position for it. A position is below 1,024, so `as` keeps it.
         for (s, p) in losses.positions().iter().enumerate() {
             nodes[s] = raise::<F>(2, *p as u32);
@@ -126,7 +127,7 @@ impl<'a, F: Arithmetic> Solver<'a, F> {
         let p = self.code.shape.packet();
         scratch.copy_from_slice(&sums[n * p..n * p + p]);
         keep_first(self.code.shape, sums, n);
-        // By number, as the gap is; and of a run that `chunks_mut` lent, nothing is known afterwards.
+        // By number, as the gap is; and of a run that `chunks_mut` lent, only the length is known afterwards.
         for j in 0..n {
             let theta = F::inverse(self.gap(j, n));
             self.code
@@ -157,7 +158,8 @@ impl<'a, F: Arithmetic> Solver<'a, F> {
         ensures { FoundAdded self.now.code.shape.now F.Arithmetic.prod self.now.nodes self.now.losses.now.len self.now.losses.now.len sums.old sums.new }
     {
         let p = self.code.shape.packet();
-        // By number: the packets found and the sums that take them in are parts of one run.
+        // By number, each by way of scratch: `add_packet` takes the whole run, in which the packets found lie too. Over the sums behind
+        // them it would have to be told which sum is the first.
         let t = self.count();
         for s in 0..t {
             scratch.copy_from_slice(&sums[s * p..s * p + p]);

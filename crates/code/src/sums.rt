@@ -24,7 +24,7 @@ impl<'a, F: Arithmetic> Code<'a, F> {
         let p = self.shape.packet();
         // There are no more than 32 sums, so `as` keeps the number.
         let mut a = raise::<F>(x, first as u32);
-        // By number: of a run that `chunks_mut` lent, nothing is known afterwards.
+        // By number: of a run that `chunks_mut` lent, only the length is known afterwards.
         for sum in first..self.shape.parity() {
             self.add_times(a, packet, &mut sums[sum * p..sum * p + p]);
             a = F::product(x, a);
@@ -71,6 +71,7 @@ pub(crate) fn first_nonzero(shape: &Shape, sums: &[u32], first: usize) -> Option
     ensures { FirstNonzero shape.now sums.now first result }
 {
     let p = shape.packet();
+    // Two loops left by a label, and no `position` over all words: sum and word are where the loops stand, with nothing to divide.
     let mut at = None;
     'found: for (i, packet) in sums[first * p..].chunks(p).enumerate() {
         for (word, value) in packet.iter().enumerate() {

@@ -17,7 +17,7 @@ ghost use Rattle.galois.specs.Field.{FieldLaws};
 
 // A field whose elements are the numbers below 2^bits: bit j stands for α^j, α is 2, and the sum is `^`.
 // The calls read the low `bits` bits of an operand, whatever stands above them.
-// An operand is a plain word and no type of its own: the words of a run are read where they lie.
+// An operand is a plain word and no type of its own: every word stands for an element, so that none has to be tested or made.
 pub trait Arithmetic {
     ghost bits: { ℕ };
 

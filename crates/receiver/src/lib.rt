@@ -16,7 +16,7 @@ pub mod take;
 mod tests;
 
 // Keeps the packets of one transmission at a time. It is blank until a shape is set.
-// Its meaning leaves out the lock, which not every store has: the calls that write have a clause for it, `shut`.
+// Its meaning leaves out the store's lock: the calls that write have a clause for it, `shut`, and those that read would have to carry it.
 #[derive(Drop)]
 pub struct Receiver<F: Arithmetic, S: SlotStore> {
     arithmetic: F,

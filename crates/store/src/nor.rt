@@ -115,6 +115,7 @@ pub fn format_words(words: &mut [u32], format: Format) -> Result<(), Refusal>
     if words.is_empty() {
         return Err(Refusal::BadFormat);
     }
+    // Split and opened in place, as in `put_words`: a function that handed out both would hide what the run holds afterwards.
     let (lock, slots) = words.split_at_mut(1);
     let _guard = Guard::open(&mut lock[0]);
     format.clear::<Nor>(slots)

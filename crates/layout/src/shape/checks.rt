@@ -22,9 +22,9 @@ impl Shape {
     pub fn check_run(&self, packets: usize, run: &[u32], place: usize) -> Result<(), Refusal>
         ensures { refused_with result ≡ run_refusal self.now packets run.now place }
     {
-        match packets.checked_mul(self.packet()) {
-            Some(words) if words == run.len() => Ok(()),
-            _ => Err(Refusal::WrongRun { place }),
+        if packets.checked_mul(self.packet()) != Some(run.len()) {
+            return Err(Refusal::WrongRun { place });
         }
+        Ok(())
     }
 }
