@@ -1,0 +1,112 @@
+/* Reads host calls from standard input, one to a line, makes each over libguyekpan.a, and writes what it answers and the
+   strings afterwards, one to a line. README.md has the format. */
+
+#define _POSIX_C_SOURCE 200809L
+
+#include <ctype.h>
+#include <stdio.h>
+#include <stdlib.h>
+#include <string.h>
+
+#include "guyekpan.h"
+
+enum { STRINGS = 3 };
+
+struct string {
+    unsigned char *bytes;
+    size_t length;
+};
+
+struct call {
+    char *name;
+    unsigned long long m, n, k, w;
+    struct string strings[STRINGS];
+    int count;
+};
+
+static void fail(const char *what, const char *line)
+{
+    fprintf(stderr, "host: %s: %.60s\n", what, line);
+    exit(1);
+}
+
+/* A string of its own length, so that a tool that watches memory sees each access outside. */
+static struct string read_string(const char *word)
+{
+    struct string string;
+    if (word[0] != 'x')
+        fail("no string", word);
+    string.length = strlen(word + 1) / 2;
+    string.bytes = malloc(string.length > 0 ? string.length : 1);
+    if (string.bytes == NULL)
+        fail("no memory", word);
+    for (size_t i = 0; i < string.length; i++) {
+        unsigned byte;
+        if (sscanf(word + 1 + 2 * i, "%2x", &byte) != 1)
+            fail("no byte", word);
+        string.bytes[i] = (unsigned char) byte;
+    }
+    return string;
+}
+
+static unsigned long long read_number(void)
+{
+    char *word = strtok(NULL, " \n");
+    if (word == NULL || !isdigit((unsigned char) word[0]))
+        fail("no number", word == NULL ? "" : word);
+    return strtoull(word, NULL, 10);
+}
+
+static struct call read_call(char *line)
+{
+    struct call call = { .name = strtok(line, " \n") };
+    if (call.name == NULL)
+        fail("no call", "");
+    call.m = read_number();
+    call.n = read_number();
+    call.k = read_number();
+    call.w = read_number();
+    for (char *word; (word = strtok(NULL, " \n")) != NULL && call.count < STRINGS; call.count++)
+        call.strings[call.count] = read_string(word);
+    return call;
+}
+
+static unsigned long make(struct call *c)
+{
+    struct string *s = c->strings;
+    if (strcmp(c->name, "host-encode") == 0 && c->count == 2)
+        return guyekpan_encode(c->m, c->n, c->k, c->w, s[0].bytes, s[0].length, s[1].bytes, s[1].length);
+    if (strcmp(c->name, "host-check") == 0 && c->count == 2)
+        return guyekpan_check(c->m, c->n, c->k, c->w, s[0].bytes, s[0].length, s[1].bytes, s[1].length);
+    if (strcmp(c->name, "host-repair") == 0 && c->count == 3)
+        return guyekpan_repair(c->m, c->n, c->k, c->w, s[0].bytes, s[0].length, s[1].bytes, s[1].length, s[2].bytes,
+                               s[2].length);
+    fail("no such call", c->name);
+    return 0;
+}
+
+static void write_result(const struct call *call, unsigned long number)
+{
+    printf("%lu", number);
+    for (int i = 0; i < call->count; i++) {
+        fputs(" x", stdout);
+        for (size_t j = 0; j < call->strings[i].length; j++)
+            printf("%02x", call->strings[i].bytes[j]);
+    }
+    putchar('\n');
+}
+
+int main(void)
+{
+    char *line = NULL;
+    size_t room = 0;
+    while (getline(&line, &room, stdin) > 0) {
+        struct call call = read_call(line);
+        unsigned long number = make(&call);
+        write_result(&call, number);
+        for (int i = 0; i < call.count; i++)
+            free(call.strings[i].bytes);
+    }
+    free(line);
+    return 0;
+}
