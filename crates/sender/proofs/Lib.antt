@@ -1,0 +1,3 @@
+pub mod Places
+pub mod Parts
+pub mod Fits

@@ -1,0 +1,71 @@
+use Rattle.std.proofs.Common.{◌≡◌, ◌*◌, [], ◌∷◌, length, sym, ap, ◌∙◌, rules, arith, length-append}
+use Rattle.layout.specs.Sizes.{packet_of}
+use Rattle.std.proofs.lemmas.Nat.{mul-le}
+use Rattle.layout.proofs.Parts.{part_length}
+use Rattle.layout.proofs.Blocks.{packet_pos}
+use Rattle.layout.proofs.Passes.{passed}
+use Rattle.code.proofs.Chunks.{chunks_done}
+use Rattle.sender.proofs.Parts.{runs_pass, parts_long, block_turn, encodes, prepared_more}
+use Rattle.sender.proofs.prepare.prepare.Goals as goal
+
+pub slice_bounds-encode-end : goal.slice_bounds-encode-end
+slice_bounds-encode-end g c =
+    let s = c.args.shape.now in
+    let v = c.loop-block.invariant in
+    let (step, number, _, _) = c.in-Some.ensures.steps in
+    let (image, parity) = runs_pass s _ _ c.in_ok-check_runs.ensures in
+    let of = c.words-part.ensures.value ∙ ap (λ r. r * packet_of s) c.parity.ensures in
+    let turn = block_turn s c.args.image.now c.loop-block.parity (length c.loop-block.yielded) _ _ _ _ _ image (c.loop-block.auto.parity ∙ parity) v.size of v.left step.1 in
+    let here = number ∙ v.count in
+    let end = rw (sym here) at turn.end in
+    search rules
+
+pub loop-block-preserved : goal.loop-block-preserved
+loop-block-preserved g c =
+    let s = c.args.shape.now in
+    let n = length c.loop-block.yielded in
+    let v = c.loop-block.invariant in
+    let (step, number, counted, _) = c.in-Some.ensures.steps in
+    let (image, parity) = runs_pass s _ _ c.in_ok-check_runs.ensures in
+    let of = c.words-part.ensures.value ∙ ap (λ r. r * packet_of s) c.parity.ensures in
+    let turn = block_turn s c.args.image.now c.loop-block.parity n _ _ _ _ _ image (c.loop-block.auto.parity ∙ parity) v.size of v.left step.1 in
+    let here : n ≡ c.in-Some.block = sym (number ∙ v.count) in
+    let end = rw here at turn.end in
+    rw (length-append c.loop-block.yielded ((c.in-Some.block, c.in-Some.source) ∷ [])) record {
+      count = let k = v.count in omega arith;
+      within = let lt = turn.source.lt in omega arith;
+      size = step.0 ∙ v.size;
+      left = turn.source.left;
+      prepared = rw here (prepared_more s g.F.Arithmetic.prod c.args.image.now c.in-Some.block _ _ c.loop-block.parity c.encode.new.parity of (omega arith) end
+          (c.encode.auto.parity ∙ part_length c.loop-block.parity c.in-Some.block c.words-part.result end)
+          (rw (turn.source.is, here) at c.in_ok-encode.ensures.after) (rw here at v.prepared));
+    }
+
+pub returns-in_err-encode-clause-answer : goal.returns-in_err-encode-clause-answer
+returns-in_err-encode-clause-answer g c =
+    let s = c.args.shape.now in
+    let v = c.loop-block.invariant in
+    let (step, number, _, _) = c.in-Some.ensures.steps in
+    let (image, parity) = runs_pass s _ _ c.in_ok-check_runs.ensures in
+    let of = c.words-part.ensures.value ∙ ap (λ r. r * packet_of s) c.parity.ensures in
+    let turn = block_turn s c.args.image.now c.loop-block.parity (length c.loop-block.yielded) _ _ _ _ _ image (c.loop-block.auto.parity ∙ parity) v.size of v.left step.1 in
+    passed _ _ (rw (sym (number ∙ v.count)) at (encodes s g.F.Arithmetic.bits _ _ _ _ _ _ c.in_ok-check_width.ensures of turn)) c.in_err-encode.ensures.answer
+
+pub returns-in_err-encode-clause-after : goal.returns-in_err-encode-clause-after
+returns-in_err-encode-clause-after g c =
+    let s = c.args.shape.now in
+    let v = c.loop-block.invariant in
+    let (step, number, _, _) = c.in-Some.ensures.steps in
+    let (image, parity) = runs_pass s _ _ c.in_ok-check_runs.ensures in
+    let of = c.words-part.ensures.value ∙ ap (λ r. r * packet_of s) c.parity.ensures in
+    let turn = block_turn s c.args.image.now c.loop-block.parity (length c.loop-block.yielded) _ _ _ _ _ image (c.loop-block.auto.parity ∙ parity) v.size of v.left step.1 in
+    passed _ _ (rw (sym (number ∙ v.count)) at (encodes s g.F.Arithmetic.bits _ _ _ _ _ _ c.in_ok-check_width.ensures of turn)) c.in_err-encode.ensures.answer
+
+pub returns-clause-after : goal.returns-clause-after
+returns-clause-after g c =
+    let s = c.args.shape.now in
+    let v = c.loop-block.invariant in
+    let (step, _) = c.in-None.ensures.steps in
+    let (image, parity) = runs_pass s _ _ c.in_ok-check_runs.ensures in
+    let all : length c.loop-block.yielded ≡ s.blocks = chunks_done (s.sources * packet_of s) c.args.image.now s.blocks _ (mul-le 1 1 s.sources (packet_of s) s.counts.0 (packet_pos s)) (parts_long s s.sources c.args.image.now image) v.within (ap length (sym v.left) ∙ step.1.0) in
+    (c.loop-block.auto.parity ∙ parity, rw all at v.prepared)

@@ -1,0 +1,28 @@
+-- Frame 0 is the shape; frame f, from 1 on, carries a packet.
+use Rattle.std.specs.Prelude.{◌≡◌, ℕ, ◌-◌, ◌*◌, ◌/◌, ◌%◌, ◌<◌, ◌≤◌, cond, ◌&&◌, List, [], Some, None, Option, nat_le}
+use Rattle.layout.specs.declared.shape.Shape.{Shape}
+
+abbrev pub block_of : Shape → ℕ → ℕ
+block_of s f = (f - 1) % s.blocks
+
+abbrev pub position_of : Shape → ℕ → ℕ
+position_of s f = (f - 1) / s.blocks
+
+-- the number of the last frame
+abbrev pub last : Shape → ℕ
+last s = s.blocks * s.positions
+
+-- refusal 11, unless the frame is one of a packet
+abbrev pub number_refusal : Shape → ℕ → Option (ℕ × List ℕ)
+number_refusal s f = cond (nat_le 1 f && nat_le f (last s)) None (Some (11, []))
+
+-- the frame that carries a position of a block, and the only one
+pub record Carried (s : Shape) (block position : ℕ) : Type 0 where
+  pub frame : ℕ
+  pub numbered : (1 ≤ frame) × (frame ≤ last s)
+  pub at : (block_of s frame ≡ block) × (position_of s frame ≡ position)
+  pub only : (f : ℕ) → 1 ≤ f → block_of s f ≡ block → position_of s f ≡ position → f ≡ frame
+
+-- each position of each block comes exactly once
+abbrev pub EachOnce : Shape → Type 0
+EachOnce s = (block position : ℕ) → block < s.blocks → position < s.positions → Carried s block position

@@ -1,0 +1,30 @@
+-- An image, the parity words of its blocks, and what prepare does.
+use Rattle.std.specs.Prelude.{◌≡◌, ℕ, ◌+◌, ◌*◌, ◌<◌, List, Ok, Err, Option, Result}
+use Rattle.std.specs.List.{between}
+use Rattle.refusal.specs.declared.Refusal.{Refusal}
+use Rattle.refusal.specs.Numbers.{or_else}
+use Rattle.layout.specs.declared.shape.Shape.{Shape}
+use Rattle.layout.specs.Sizes.{parity_of, packet_of, Packets}
+use Rattle.layout.specs.Checks.{width_refusal, run_refusal}
+use Rattle.code.specs.Calls.{Encoded}
+
+-- part i of a run of parts of so many words
+abbrev pub part : ℕ → List ℕ → ℕ → List ℕ
+part words run i = between (i * words) (i * words + words) run
+
+-- refusal 5 with the place of the first run, image or parity words, that has not the packets of all blocks
+abbrev pub runs_refusal : Shape → List ℕ → List ℕ → Option (ℕ × List ℕ)
+runs_refusal s image parity =
+    or_else (run_refusal s (s.blocks * s.sources) image 0) (run_refusal s (s.blocks * parity_of s) parity 1)
+
+abbrev pub prepare_refusal : ℕ → Shape → List ℕ → List ℕ → Option (ℕ × List ℕ)
+prepare_refusal bits s image parity = or_else (width_refusal bits s) (runs_refusal s image parity)
+
+-- the first n blocks have the parity that makes them codewords
+abbrev pub Prepared : Shape → (ℕ → ℕ → ℕ) → List ℕ → List ℕ → ℕ → Type 0
+Prepared s prod image parity n =
+    (b : ℕ) → b < n → Encoded s prod (part (s.sources * packet_of s) image b) (part (parity_of s * packet_of s) parity b)
+
+abbrev pub AfterPrepare : Shape → (ℕ → ℕ → ℕ) → List ℕ → List ℕ → List ℕ → Result (Unit {0}) Refusal → Type 0
+AfterPrepare s prod image before after (Ok u) = Packets s (s.blocks * parity_of s) after × Prepared s prod image after s.blocks
+AfterPrepare s prod image before after (Err e) = after ≡ before

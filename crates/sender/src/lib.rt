@@ -1,0 +1,35 @@
+// The head-end's side of a transmission: parity for an image, and the frames that carry both.
+#![tactic(auto)]
+
+ghost use Rattle.std.specs.Prelude.{◌≡◌};
+ghost use Rattle.refusal.specs.Numbers.{refused_with};
+ghost use Rattle.sender.specs.Prepared.{runs_refusal};
+
+use layout::shape::Shape;
+use refusal::Refusal;
+
+pub mod frames;
+pub mod numbering;
+pub mod prepare;
+#[cfg(test)]
+mod tests;
+
+// An image, block after block, with the parity words of its blocks. Each call looks at the runs again, after the number
+// of the frame.
+#[derive(Clone, Copy)]
+pub struct Transmission<'a> {
+    pub shape: &'a Shape,
+    pub image: &'a [u32],
+    pub parity: &'a [u32],
+}
+
+impl Transmission<'_> {
+    // Refuses runs that are not of all blocks.
+    pub(crate) fn check_runs(&self) -> Result<(), Refusal>
+        ensures { refused_with result ≡ runs_refusal self.now.shape.now self.now.image.now self.now.parity.now }
+    {
+        let shape = self.shape;
+        shape.check_run(shape.blocks() * shape.sources(), self.image, 0)?;
+        shape.check_run(shape.blocks() * shape.parity(), self.parity, 1)
+    }
+}

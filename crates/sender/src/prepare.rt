@@ -1,0 +1,49 @@
+// The parity of a whole image.
+ghost use Rattle.std.specs.Prelude.{◌≡◌, ◌*◌, ◌≤◌};
+ghost use Rattle.refusal.specs.Numbers.{refused_with};
+ghost use Rattle.layout.specs.Sizes.{packet_of};
+ghost use Rattle.sender.specs.Prepared.{prepare_refusal, AfterPrepare};
+
+use crate::Transmission;
+use code::block::encode;
+use field::Arithmetic;
+use layout::shape::Shape;
+use refusal::Refusal;
+
+// How many words so many packets have.
+fn words(shape: &Shape, packets: usize) -> usize
+    requires { (1 ≤ packets) × (packets ≤ 1023) }
+    ensures value { result ≡ packets * packet_of shape.now }
+    ensures bounds { (1 ≤ result) × (result ≤ 163680) }
+{
+    packets * shape.packet()
+}
+
+// Fills the parity words of every block from the image.
+pub fn prepare<F: Arithmetic>(
+    shape: &Shape,
+    image: &[u32],
+    parity: &mut [u32],
+) -> Result<(), Refusal>
+    ensures answer { refused_with result ≡ prepare_refusal F.Arithmetic.bits shape.now image.now parity.old }
+    ensures after { AfterPrepare shape.now F.Arithmetic.prod image.now parity.old parity.new result }
+{
+    shape.check_width::<F>()?;
+    Transmission {
+        shape,
+        image,
+        parity,
+    }
+    .check_runs()?;
+    let part = words(shape, shape.parity());
+    let sources = image.chunks(words(shape, shape.sources()));
+    for (block, source) in sources.enumerate() {
+        // A part by its number: of what a loop over `chunks_mut` leaves, a proof knows the length alone.
+        encode::<F>(
+            shape,
+            source,
+            &mut parity[block * part..block * part + part],
+        )?;
+    }
+    Ok(())
+}
