@@ -1,0 +1,127 @@
+-- What a host in C is answered, and what its strings hold afterwards.
+use Rattle.std.specs.Prelude.{◌≡◌, ℕ, ◌+◌, ◌-◌, ◌*◌, ◌<◌, Bool, cond, ◌⊎◌, List, [], ◌∷◌, length, Some, None, Ok, Err, Option, Result, ◌==◌, nat_le}
+use Rattle.refusal.specs.declared.Refusal.{Refusal}
+use Rattle.refusal.specs.Numbers.{said, refused_with, or_else}
+use Rattle.galois.specs.Field.{product}
+use Rattle.layout.specs.declared.shape.Dimensions.{Dimensions}
+use Rattle.layout.specs.declared.shape.Shape.{Shape}
+use Rattle.layout.specs.declared.losses.LossList.{LossList}
+use Rattle.layout.specs.Rules.{InOrder}
+use Rattle.layout.specs.Made.{dimensions_of, shape_refusal, Listed}
+use Rattle.layout.specs.Blocks.{ZeroRun}
+use Rattle.code.specs.Calls.{CodewordRun, Encoded, Says, Restored}
+use Rattle.guyekpan.specs.Bytes.{words_of, positions_of}
+
+-- the product of the octet
+abbrev pub octet : ℕ → ℕ → ℕ
+octet = product 8 0x11D
+
+-- the dimensions that a host names: one block
+abbrev pub named : ℕ → ℕ → ℕ → ℕ → Dimensions
+named m n k w = record { rows = m; positions = n; sources = k; blocks = 1; words = w }
+
+-- the four checks of a shape; the last also asks whether a block has at most 8,192 words
+abbrev pub host_shape_refusal : ℕ → ℕ → ℕ → ℕ → Option (ℕ × List ℕ)
+host_shape_refusal m n k w = or_else (shape_refusal 8 (named m n k w)) (cond (nat_le (n * (m * w)) 8192) None (Some (4, [])))
+
+-- refusal 5 with the place of a string that has not four bytes for each of so many words
+abbrev pub string_refusal : ℕ → List ℕ → ℕ → Option (ℕ × List ℕ)
+string_refusal words bytes place = cond (length bytes == 4 * words) None (Some (5, place ∷ []))
+
+-- the one number that a host gets: 256 times the place, or 256 times the sum and 65,536 times the word, on top
+abbrev pub host_number : Option (ℕ × List ℕ) → ℕ
+host_number None = 0
+host_number (Some (number, [])) = number
+host_number (Some (number, place ∷ [])) = number + 256 * place
+host_number (Some (number, sum ∷ word ∷ rest)) = number + 256 * sum + 65536 * word
+
+-- the values of a refusal leave room for the others in the number
+abbrev pub Small : Option (ℕ × List ℕ) → Type 0
+Small None = Unit {0}
+Small (Some (number, [])) = Unit {0}
+Small (Some (number, place ∷ [])) = place < 256
+Small (Some (number, sum ∷ word ∷ rest)) = (sum < 256) × (word < 256)
+
+-- ENCODE
+
+abbrev pub host_encode_refusal : ℕ → ℕ → ℕ → ℕ → List ℕ → List ℕ → Option (ℕ × List ℕ)
+host_encode_refusal m n k w source parity =
+    or_else (host_shape_refusal m n k w) (or_else (string_refusal (k * (m * w)) source 0) (string_refusal ((n - k) * (m * w)) parity 1))
+
+pub record HostEncoded (m n k w : ℕ) (source parity : List ℕ) : Type 0 where
+  pub shape : Shape
+  pub of : dimensions_of shape ≡ named m n k w
+  pub encoded : Encoded shape octet (words_of source) (words_of parity)
+
+-- the parity string afterwards, for the refusal
+abbrev pub AfterHostEncode : ℕ → ℕ → ℕ → ℕ → List ℕ → List ℕ → List ℕ → Option (ℕ × List ℕ) → Type 0
+AfterHostEncode m n k w source before after None = HostEncoded m n k w source after
+AfterHostEncode m n k w source before after (Some e) = after ≡ before
+
+-- CHECK
+
+abbrev pub host_check_refusal : ℕ → ℕ → ℕ → ℕ → List ℕ → List ℕ → Option (ℕ × List ℕ)
+host_check_refusal m n k w block work =
+    or_else (host_shape_refusal m n k w) (or_else (string_refusal (n * (m * w)) block 0) (string_refusal ((n - k + 1) * (m * w)) work 1))
+
+-- whether the block is a codeword; and the work string is zero
+pub record HostChecked (m n k w : ℕ) (block work : List ℕ) (answer : Bool) : Type 0 where
+  pub shape : Shape
+  pub of : dimensions_of shape ≡ named m n k w
+  pub says : Says answer (CodewordRun shape octet (words_of block))
+  pub cleared : ZeroRun work
+
+abbrev pub AfterHostCheck : ℕ → ℕ → ℕ → ℕ → List ℕ → List ℕ → List ℕ → Result Bool Refusal → Type 0
+AfterHostCheck m n k w block before after (Ok answer) = HostChecked m n k w block after answer
+AfterHostCheck m n k w block before after (Err e) = after ≡ before
+
+-- 0 for yes, 255 for no, or the number of the refusal
+abbrev pub check_number : Result Bool Refusal → ℕ
+check_number (Ok answer) = cond answer 0 255
+check_number (Err e) = host_number (Some (said e))
+
+pub record HostCheckAnswer (m n k w : ℕ) (block before after : List ℕ) (number : ℕ) : Type 0 where
+  pub answer : Result Bool Refusal
+  pub told : number ≡ check_number answer
+  pub refusal : refused_with answer ≡ host_check_refusal m n k w block before
+  pub done : AfterHostCheck m n k w block before after answer
+
+-- REPAIR
+
+-- two bytes for each lost position, which ascend and lie in the block
+abbrev pub Positions : ℕ → List ℕ → Type 0
+Positions n losses = (length losses ≡ 2 * length (positions_of losses)) × InOrder (positions_of losses) n
+
+-- refusal 6 where they are not so, then 7 where they are too many
+abbrev pub ListRefused : ℕ → ℕ → List ℕ → ℕ × List ℕ → Type 0
+ListRefused n k losses e = ((Positions n losses → ⊥) × (e ≡ (6, []))) ⊎ (Positions n losses × (n - k < length (positions_of losses)) × (e ≡ (7, [])))
+
+abbrev pub ListRead : Shape → List ℕ → Result LossList Refusal → Type 0
+ListRead s losses (Ok l) = Positions s.positions losses × Listed s (positions_of losses) l
+ListRead s losses (Err e) = ListRefused s.positions s.sources losses (said e)
+
+-- refused before any work, by the shape or a length, or else by the loss list; the work string is as it was
+pub record HostUnrepaired (m n k w : ℕ) (block losses work work' : List ℕ) (e : ℕ × List ℕ) : Type 0 where
+  pub why : (host_check_refusal m n k w block work ≡ Some e) ⊎ ((host_check_refusal m n k w block work ≡ None) × ListRefused n k losses e)
+  pub same_work : work' ≡ work
+
+-- the checks pass, the work string is zero afterwards, and the block is restored or contradictory
+pub record HostAttempted (m n k w : ℕ) (block block' losses work work' : List ℕ) (outcome : Result (Unit {0}) Refusal) : Type 0 where
+  pub shape : Shape
+  pub of : dimensions_of shape ≡ named m n k w
+  pub passed : host_check_refusal m n k w block work ≡ None
+  pub positions : Positions n losses
+  pub list : LossList
+  pub listed : Listed shape (positions_of losses) list
+  pub restored : Restored shape octet list (words_of block) (words_of block') outcome
+  pub cleared : ZeroRun work'
+
+abbrev pub HostRepaired : ℕ → ℕ → ℕ → ℕ → List ℕ → List ℕ → List ℕ → List ℕ → List ℕ → Result (Unit {0}) Refusal → Type 0
+HostRepaired m n k w block block' losses work work' (Ok u) = HostAttempted m n k w block block' losses work work' (Ok u)
+HostRepaired m n k w block block' losses work work' (Err e) =
+    (block' ≡ block) × (HostUnrepaired m n k w block losses work work' (said e) ⊎ HostAttempted m n k w block block' losses work work' (Err e))
+
+pub record HostRepairAnswer (m n k w : ℕ) (block block' losses work work' : List ℕ) (number : ℕ) : Type 0 where
+  pub outcome : Result (Unit {0}) Refusal
+  pub told : number ≡ host_number (refused_with outcome)
+  pub done : HostRepaired m n k w block block' losses work work' outcome

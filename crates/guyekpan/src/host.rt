@@ -1,0 +1,99 @@
+// The block calls, on the words that byte strings spell.
+ghost use Rattle.std.specs.Prelude.{◌≡◌};
+ghost use Rattle.refusal.specs.Numbers.{refused_with};
+ghost use Rattle.guyekpan.specs.Host.{Small, host_number, host_encode_refusal, AfterHostEncode, host_check_refusal, AfterHostCheck, HostRepaired};
+
+use crate::bytes::{clear, words, write};
+use crate::one_block::OneBlock;
+use code::block;
+use field::octet::TabledOctet;
+use refusal::Refusal;
+
+// The number for an outcome.
+pub fn number(outcome: Result<(), Refusal>) -> u32
+    requires { Small (refused_with outcome) }
+    ensures { result ≡ host_number (refused_with outcome) }
+{
+    match outcome {
+        Ok(()) => 0,
+        Err(refusal) => {
+            refusal.number()
+                + match refusal {
+                    Refusal::WrongRun { place } => 256 * place as u32,
+                    Refusal::Contradictory { sum, word } => 256 * sum as u32 + 65_536 * word as u32,
+                    _ => 0,
+                }
+        }
+    }
+}
+
+// Fills the parity string from the source string.
+pub fn encode(
+    m: u32,
+    n: u32,
+    k: u32,
+    w: u32,
+    source: &[u8],
+    parity: &mut [u8],
+) -> Result<(), Refusal>
+    ensures answer { refused_with result ≡ host_encode_refusal m n k w source.now parity.old }
+    ensures after { AfterHostEncode m n k w source.now parity.old parity.new (refused_with result) }
+    ensures small { Small (refused_with result) }
+{
+    let one = OneBlock::new(m, n, k, w)?;
+    let shape = &one.shape;
+    let s = one.words_in(shape.sources(), source, 0)?;
+    let p = one.words_in(shape.parity(), parity, 1)?;
+    let from = words(source);
+    let mut to = words(parity);
+    let to = &mut to[..p];
+    block::encode::<TabledOctet>(shape, &from[..s], to)?;
+    write(to, parity);
+    Ok(())
+}
+
+// Whether the block is a codeword.
+pub fn check(m: u32, n: u32, k: u32, w: u32, block: &[u8], work: &mut [u8]) -> Result<bool, Refusal>
+    ensures answer { refused_with result ≡ host_check_refusal m n k w block.now work.old }
+    ensures after { AfterHostCheck m n k w block.now work.old work.new result }
+    ensures small { Small (refused_with result) }
+{
+    let one = OneBlock::new(m, n, k, w)?;
+    let shape = &one.shape;
+    let b = one.words_in(shape.positions(), block, 0)?;
+    let r = one.words_in(shape.parity() + 1, work, 1)?;
+    let run = words(block);
+    let mut room = words(work);
+    let yes = block::check::<TabledOctet>(shape, &run[..b], &mut room[..r])?;
+    clear(work);
+    Ok(yes)
+}
+
+// Restores the packets of the block at the lost positions.
+pub fn repair(
+    m: u32,
+    n: u32,
+    k: u32,
+    w: u32,
+    block: &mut [u8],
+    losses: &[u8],
+    work: &mut [u8],
+) -> Result<(), Refusal>
+    ensures after { HostRepaired m n k w block.old block.new losses.now work.old work.new result }
+    ensures small { Small (refused_with result) }
+{
+    let one = OneBlock::new(m, n, k, w)?;
+    let shape = &one.shape;
+    let b = one.words_in(shape.positions(), block, 0)?;
+    let r = one.words_in(shape.parity() + 1, work, 1)?;
+    let lost = one.losses(losses)?;
+    let mut run = words(block);
+    let run = &mut run[..b];
+    let mut room = words(work);
+    let outcome = block::repair::<TabledOctet>(shape, run, &lost, &mut room[..r]);
+    clear(work);
+    if outcome.is_ok() {
+        write(run, block);
+    }
+    outcome
+}

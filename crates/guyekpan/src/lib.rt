@@ -1,0 +1,65 @@
+// Encode, check and repair one block of the tabled octet, for a host in C. It passes m, n, k and w, and byte strings: each
+// word is four bytes, highest first. It gets one number: 0 for done or yes, 255 for a check that says no, else the refusal.
+#![tactic(auto)]
+
+ghost use Rattle.std.specs.Prelude.{◌≡◌};
+ghost use Rattle.guyekpan.specs.Host.{host_number, host_encode_refusal, AfterHostEncode, HostCheckAnswer, HostRepairAnswer};
+
+mod bytes;
+mod host;
+mod one_block;
+
+use host::{check, encode, number, repair};
+
+// The number for a check that says no.
+const NO: u32 = 255;
+
+// Fills the parity string of a block from its source string.
+#[unsafe(no_mangle)]
+pub extern "C" fn guyekpan_encode(
+    m: u32,
+    n: u32,
+    k: u32,
+    w: u32,
+    source: &[u8],
+    parity: &mut [u8],
+) -> u32
+    ensures number { result ≡ host_number (host_encode_refusal m n k w source.now parity.old) }
+    ensures after { AfterHostEncode m n k w source.now parity.old parity.new (host_encode_refusal m n k w source.now parity.old) }
+{
+    number(encode(m, n, k, w, source, parity))
+}
+
+// Whether the block is a codeword.
+#[unsafe(no_mangle)]
+pub extern "C" fn guyekpan_check(
+    m: u32,
+    n: u32,
+    k: u32,
+    w: u32,
+    block: &[u8],
+    work: &mut [u8],
+) -> u32
+    ensures { HostCheckAnswer m n k w block.now work.old work.new result }
+{
+    match check(m, n, k, w, block, work) {
+        Ok(yes) => { if yes { 0 } else { NO } }
+        Err(refusal) => number(Err(refusal)),
+    }
+}
+
+// Restores the packets of the block at the lost positions.
+#[unsafe(no_mangle)]
+pub extern "C" fn guyekpan_repair(
+    m: u32,
+    n: u32,
+    k: u32,
+    w: u32,
+    block: &mut [u8],
+    losses: &[u8],
+    work: &mut [u8],
+) -> u32
+    ensures { HostRepairAnswer m n k w block.old block.new losses.now work.old work.new result }
+{
+    number(repair(m, n, k, w, block, losses, work))
+}

@@ -1,0 +1,14 @@
+// A shape of one block that fits the room.
+ghost use Rattle.std.specs.Prelude.{◌≡◌, ◌*◌, ◌≤◌};
+ghost use Rattle.layout.specs.Sizes.{packet_of};
+
+use layout::shape::Shape;
+
+pub mod make;
+
+#[derive(Clone, Copy)]
+pub struct OneBlock {
+    pub shape: Shape,
+    ghost octet: { shape.rows ≡ 8 },
+    ghost fits: { shape.positions * packet_of shape ≤ 8192 },
+}

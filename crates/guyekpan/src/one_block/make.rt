@@ -1,0 +1,58 @@
+ghost use Rattle.std.specs.Prelude.{◌≡◌, ◌*◌, ◌≤◌, length, IfOk};
+ghost use Rattle.refusal.specs.Numbers.{refused_with};
+ghost use Rattle.layout.specs.Made.{dimensions_of};
+ghost use Rattle.layout.specs.Sizes.{packet_of};
+ghost use Rattle.guyekpan.specs.Host.{named, host_shape_refusal, string_refusal, ListRead};
+
+use super::OneBlock;
+use crate::bytes::{ROOM, positions};
+use field::octet::TabledOctet;
+use layout::losses::LossList;
+use layout::shape::{Dimensions, Shape};
+use refusal::Refusal;
+
+impl OneBlock {
+    // The shape that a host names.
+    pub fn new(m: u32, n: u32, k: u32, w: u32) -> Result<OneBlock, Refusal>
+        ensures answer { refused_with result ≡ host_shape_refusal m n k w }
+        ensures of { IfOk result (λ b. dimensions_of b.shape ≡ named m n k w) }
+    {
+        let shape = Shape::new::<TabledOctet>(Dimensions {
+            rows: m as usize,
+            positions: n as usize,
+            sources: k as usize,
+            blocks: 1,
+            words: w as usize,
+        })?;
+        if shape.positions() * shape.packet() > ROOM {
+            return Err(Refusal::BadSize);
+        }
+        Ok(OneBlock { shape })
+    }
+
+    // How many words a string has; refused unless it has four bytes for each word of so many packets.
+    pub fn words_in(&self, packets: usize, bytes: &[u8], place: usize) -> Result<usize, Refusal>
+        requires { packets ≤ self.now.shape.positions }
+        ensures answer { refused_with result ≡ string_refusal (packets * packet_of self.now.shape) bytes.now place }
+        ensures words { IfOk result (λ words. (words ≡ packets * packet_of self.now.shape) × (words ≤ 8192) × (length bytes.now ≡ 4 * words)) }
+    {
+        let words = packets * self.shape.packet();
+        if bytes.len() != 4 * words {
+            return Err(Refusal::WrongRun { place });
+        }
+        Ok(words)
+    }
+
+    // The lost positions that a string lists, two bytes each.
+    pub fn losses(&self, bytes: &[u8]) -> Result<LossList, Refusal>
+        ensures { ListRead self.now.shape bytes.now result }
+    {
+        let count = bytes.len() / 2;
+        // A block has at most 255 positions, so that a longer list cannot ascend within it.
+        if bytes.len() % 2 != 0 || count > 255 {
+            return Err(Refusal::BadLosses);
+        }
+        let at = positions(bytes);
+        LossList::new(&self.shape, &at[..count])
+    }
+}
