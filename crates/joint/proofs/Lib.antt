@@ -1,0 +1,2 @@
+mod Holding
+mod Words
