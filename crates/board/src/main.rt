@@ -11,8 +11,9 @@ use field::nibble::NibbleTables;
 use field::octet::OctetTables;
 use field::stepped::SteppedOctet;
 use field::tabled::Tabled;
+use layout::shape::LONGEST;
 use receiver::Receiver;
-use std::alloc::Global;
+use std::alloc::{AllocError, Global};
 use std::io::{BufRead, BufReader, Lines, Stdin};
 use std::process::ExitCode;
 use store::SlotStore;
@@ -33,6 +34,14 @@ fn said(line: &str) -> Option<&str> {
     }
 }
 
+// One word more than the longest run that a receiver takes, the work run of 32 parity packets and one of scratch.
+const TOO_LONG: usize = 33 * LONGEST + 1;
+
+// A run of so many zeros. A longer one than any receiver takes is made no longer than that: it is refused all the same.
+fn run_of(heap: Global, length: usize) -> Result<Vec<u32>, AllocError> {
+    vec![in heap; 0; length.min(TOO_LONG)]
+}
+
 // Makes one call.
 fn respond<F: Arithmetic, S: SlotStore>(
     heap: Global,
@@ -42,7 +51,7 @@ fn respond<F: Arithmetic, S: SlotStore>(
     match call {
         Call::Take { frame } => Ok(Answer::Taken(receiver.take(&frame)?)),
         Call::Repair { block, length } => {
-            let mut work = vec![in heap; 0; length]?;
+            let mut work = run_of(heap, length)?;
             Ok(Answer::Whole(receiver.repair(block, &mut work)?))
         }
         Call::Fetch {
@@ -50,7 +59,7 @@ fn respond<F: Arithmetic, S: SlotStore>(
             position,
             length,
         } => {
-            let mut run = vec![in heap; 0; length]?;
+            let mut run = run_of(heap, length)?;
             receiver.fetch(block, position, &mut run)?;
             Ok(Answer::Packet(run))
         }
