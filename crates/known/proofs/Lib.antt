@@ -1,0 +1,3 @@
+mod Forced
+mod Given
+mod Block
