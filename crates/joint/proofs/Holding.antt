@@ -9,7 +9,7 @@ use Rattle.sender.specs.Numbering.{block_of, position_of, last}
 use Rattle.sender.specs.Sent.{payload_of}
 use Rattle.sender.proofs.Places.{each_once}
 use Rattle.receiver.specs.Meaning.{Meaning}
-use Rattle.receiver.specs.Calls.{of_shape, place_refusal, length_refusal, empty_refusal, fetch_refusal}
+use Rattle.receiver.specs.Calls.{of_shape, block_refusal, position_refusal, length_refusal, empty_refusal, read_refusal, fetch_refusal}
 use Rattle.refusal.specs.Numbers.{or_else}
 use Rattle.joint.specs.Held.{HoldsAll, HoldsBelow}
 
@@ -39,8 +39,8 @@ filled None run h = absurd (cc)
 -- a fetch that is not refused finds a packet
 pub fetched : (m : Meaning) (i j : ℕ) (run found : List ℕ) → None ≡ fetch_refusal m i j run → found ≡ packet_or (m.grid.slots i j) run → m.grid.slots i j ≡ Some found
 fetched m i j run found h is = filled (m.grid.slots i j) run (of m.shape (sym h)) ∙ ap Some (sym is) where
-  of : (o : Option Shape) → of_shape o (λ s. or_else (place_refusal s i j) (or_else (length_refusal s run) (empty_refusal (m.grid.slots i j)))) ≡ None → empty_refusal (m.grid.slots i j) ≡ None
-  of (Some s) h = passes (length_refusal s run) _ (passes (place_refusal s i j) _ h)
+  of : (o : Option Shape) → of_shape o (λ s. or_else (block_refusal s i) (read_refusal s m.grid i j run)) ≡ None → empty_refusal (m.grid.slots i j) ≡ None
+  of (Some s) h = passes (length_refusal s run) _ (passes (position_refusal s j) _ (passes (block_refusal s i) _ h))
   of None h = absurd (cc)
 
 module _ (s : Shape) (image parity : List ℕ) (g : Grid) where
