@@ -3,7 +3,7 @@
 KIND is fields, blocks, stores, frames, sender or host, which print one case to a line (README.md has the format), or script, which
 prints script number N for the program board, with the answer expected behind each line.
 
-Case number i of a kind depends on the seed, the kind and i alone.
+What is drawn depends on the start number, on the kind and on how many of that kind were drawn before.
 """
 
 import random

@@ -6,7 +6,7 @@ ghost use Rattle.guyekpan.specs.Bytes.{words_of, positions_of};
 use std::array;
 
 // Room for the longest string that a host may pass: there is no heap.
-pub const ROOM: usize = 8192;
+pub(crate) const ROOM: usize = 8192;
 
 // Word number i of a string, and 0 behind the last.
 fn word(bytes: &[u8], i: usize) -> u32
@@ -25,14 +25,14 @@ fn word(bytes: &[u8], i: usize) -> u32
 }
 
 // The words of a string, and zeros behind them.
-pub fn words(bytes: &[u8]) -> [u32; ROOM]
+pub(crate) fn words(bytes: &[u8]) -> [u32; ROOM]
     ensures { (i : ℕ) → i < 8192 → slice_index result i ≡ slice_index (words_of bytes.now) i }
 {
     array::from_fn(|i| word(bytes, i))
 }
 
 // Writes words into a string of their length.
-pub fn write(words: &[u32], bytes: &mut [u8])
+pub(crate) fn write(words: &[u32], bytes: &mut [u8])
     requires { length bytes.old ≡ 4 * length words.now }
     ensures { words_of bytes.new ≡ words.now }
 {
@@ -43,7 +43,7 @@ pub fn write(words: &[u32], bytes: &mut [u8])
 }
 
 // Fills a string with zeros.
-pub fn clear(bytes: &mut [u8])
+pub(crate) fn clear(bytes: &mut [u8])
     ensures { ZeroRun bytes.new }
 {
     bytes.fill(0);
@@ -61,7 +61,7 @@ fn position(bytes: &[u8], i: usize) -> usize
 }
 
 // The positions of a string, and zeros behind them.
-pub fn positions(bytes: &[u8]) -> [usize; 255]
+pub(crate) fn positions(bytes: &[u8]) -> [usize; 255]
     ensures { (i : ℕ) → i < 255 → slice_index result i ≡ slice_index (positions_of bytes.now) i }
 {
     array::from_fn(|i| position(bytes, i))

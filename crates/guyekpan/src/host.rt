@@ -10,7 +10,7 @@ use field::octet::TabledOctet;
 use refusal::Refusal;
 
 // The number for an outcome.
-pub fn number(outcome: Result<(), Refusal>) -> u32
+pub(crate) fn number(outcome: Result<(), Refusal>) -> u32
     requires { Small (refused_with outcome) }
     ensures { result ≡ host_number (refused_with outcome) }
 {
@@ -28,7 +28,7 @@ pub fn number(outcome: Result<(), Refusal>) -> u32
 }
 
 // Fills the parity string from the source string.
-pub fn encode(
+pub(crate) fn encode(
     m: u32,
     n: u32,
     k: u32,
@@ -53,7 +53,14 @@ pub fn encode(
 }
 
 // Whether the block is a codeword.
-pub fn check(m: u32, n: u32, k: u32, w: u32, block: &[u8], work: &mut [u8]) -> Result<bool, Refusal>
+pub(crate) fn check(
+    m: u32,
+    n: u32,
+    k: u32,
+    w: u32,
+    block: &[u8],
+    work: &mut [u8],
+) -> Result<bool, Refusal>
     ensures answer { refused_with result ≡ host_check_refusal m n k w block.now work.old }
     ensures after { AfterHostCheck m n k w block.now work.old work.new result }
     ensures small { Small (refused_with result) }
@@ -70,7 +77,7 @@ pub fn check(m: u32, n: u32, k: u32, w: u32, block: &[u8], work: &mut [u8]) -> R
 }
 
 // Restores the packets of the block at the lost positions.
-pub fn repair(
+pub(crate) fn repair(
     m: u32,
     n: u32,
     k: u32,

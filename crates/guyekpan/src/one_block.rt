@@ -4,11 +4,11 @@ ghost use Rattle.layout.specs.Sizes.{packet_of};
 
 use layout::shape::Shape;
 
-pub mod make;
+mod make;
 
 #[derive(Clone, Copy)]
-pub struct OneBlock {
-    pub shape: Shape,
+pub(crate) struct OneBlock {
+    pub(crate) shape: Shape,
     ghost octet: { shape.rows ≡ 8 },
     ghost fits: { shape.positions * packet_of shape ≤ 8192 },
 }

@@ -11,6 +11,7 @@ use Rattle.sender.proofs.Places.{each_once}
 use Rattle.receiver.specs.Meaning.{Meaning}
 use Rattle.receiver.specs.Calls.{of_shape, block_refusal, position_refusal, length_refusal, empty_refusal, read_refusal, fetch_refusal}
 use Rattle.refusal.specs.Numbers.{or_else}
+use Rattle.sender.proofs.Parts.{both_pass}
 use Rattle.joint.specs.Held.{HoldsAll, HoldsBelow}
 
 equal : (b : Bool) → false ≡ not b → b ≡ true
@@ -28,10 +29,6 @@ same_words xs ys h = (bytes_eq-Decides xs ys).0 (equal (bytes_eq xs ys) h)
 pub other_words : (xs ys : List ℕ) → true ≡ not (bytes_eq xs ys) → xs ≡ ys → ⊥
 other_words xs ys h e = other (bytes_eq xs ys) h ((bytes_eq-Decides xs ys).1 e)
 
-passes : (p q : Option (ℕ × List ℕ)) → or_else p q ≡ None → q ≡ None
-passes (Some e) q h = absurd (cc)
-passes None q h = h
-
 filled : (o : Option (List ℕ)) (run : List ℕ) → empty_refusal o ≡ None → o ≡ Some (packet_or o run)
 filled (Some ws) run h = cc
 filled None run h = absurd (cc)
@@ -40,7 +37,10 @@ filled None run h = absurd (cc)
 pub fetched : (m : Meaning) (i j : ℕ) (run found : List ℕ) → None ≡ fetch_refusal m i j run → found ≡ packet_or (m.grid.slots i j) run → m.grid.slots i j ≡ Some found
 fetched m i j run found h is = filled (m.grid.slots i j) run (of m.shape (sym h)) ∙ ap Some (sym is) where
   of : (o : Option Shape) → of_shape o (λ s. or_else (block_refusal s i) (read_refusal s m.grid i j run)) ≡ None → empty_refusal (m.grid.slots i j) ≡ None
-  of (Some s) h = passes (length_refusal s run) _ (passes (position_refusal s j) _ (passes (block_refusal s i) _ h))
+  of (Some s) h =
+      let inside = (both_pass (block_refusal s i) _ (sym h)).1 in
+      let long = (both_pass (position_refusal s j) _ (sym inside)).1 in
+      (both_pass (length_refusal s run) _ (sym long)).1
   of None h = absurd (cc)
 
 module _ (s : Shape) (image parity : List ℕ) (g : Grid) where

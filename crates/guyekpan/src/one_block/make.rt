@@ -13,7 +13,7 @@ use refusal::Refusal;
 
 impl OneBlock {
     // The shape that a host names.
-    pub fn new(m: u32, n: u32, k: u32, w: u32) -> Result<OneBlock, Refusal>
+    pub(crate) fn new(m: u32, n: u32, k: u32, w: u32) -> Result<OneBlock, Refusal>
         ensures answer { refused_with result ≡ host_shape_refusal m n k w }
         ensures of { IfOk result (λ b. dimensions_of b.shape ≡ named m n k w) }
     {
@@ -31,7 +31,12 @@ impl OneBlock {
     }
 
     // How many words a string has; refused unless it has four bytes for each word of so many packets.
-    pub fn words_in(&self, packets: usize, bytes: &[u8], place: usize) -> Result<usize, Refusal>
+    pub(crate) fn words_in(
+        &self,
+        packets: usize,
+        bytes: &[u8],
+        place: usize,
+    ) -> Result<usize, Refusal>
         requires { packets ≤ self.now.shape.positions }
         ensures answer { refused_with result ≡ string_refusal (packets * packet_of self.now.shape) bytes.now place }
         ensures words { IfOk result (λ words. (words ≡ packets * packet_of self.now.shape) × (words ≤ 8192) × (length bytes.now ≡ 4 * words)) }
@@ -44,7 +49,7 @@ impl OneBlock {
     }
 
     // The lost positions that a string lists, two bytes each.
-    pub fn losses(&self, bytes: &[u8]) -> Result<LossList, Refusal>
+    pub(crate) fn losses(&self, bytes: &[u8]) -> Result<LossList, Refusal>
         ensures { ListRead self.now.shape bytes.now result }
     {
         let count = bytes.len() / 2;
