@@ -41,6 +41,10 @@ module _ (s : Shape) (prod : ℕ → ℕ → ℕ) (l : LossList) (g : Grid) (i :
       let o = held_from (g.slots i q) (sym f ∙ M.same q h) in
       a q o.0 h o.1 j c p r ∙ same_read s prod _ _ (sym o.1) j c p r
 
+  -- and the other way round
+  pub agree_held : Missing s g i l → (d : Block) → AgreeOff s prod l d (block_of s g i) → Agrees s prod g i d
+  agree_held M d a q ws h e j c p r = a q h (M.same q h ∙ ap (λ o. not (is_some o)) e) j c p r ∙ same_read s prod _ _ e j c p r
+
   module _ (A : Lacks s g i l) where
     -- the missing packets read as zero
     pub missing_gone : (k : ℕ) → k < l.len → ZeroPacket (code_of s prod) (block_of s g i (lost l k))

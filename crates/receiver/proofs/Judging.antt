@@ -18,15 +18,23 @@ use Rattle.receiver.specs.declared.Whole.{Whole}
 use Rattle.receiver.specs.Sound.{Fitted}
 use Rattle.receiver.specs.Meaning.{Meaning}
 use Rattle.receiver.specs.Calls.{count_refusal, held_in}
-use Rattle.receiver.specs.Blocks.{block_of, Missing, Agrees, One, Several, NoCodeword, Contradictory}
+use Rattle.receiver.specs.Blocks.{block_of, Missing, One, Several, NoCodeword, Contradictory, missing_in, Agrees}
 use Rattle.receiver.specs.Repairs.{few_refusal, repair_refusal, Completes, AfterRepair, Judged}
 use Rattle.receiver.specs.Steps.{Lacks, Mended}
-use Rattle.receiver.proofs.Completing.{held_from, agree_off}
+use Rattle.receiver.proofs.Completing.{held_from, agree_off, agree_held}
 use Rattle.receiver.proofs.Reading.{same_read}
+
+-- the held and the missing positions are all positions
+pub all_positions : (s : Shape) (g : Grid) (i : ℕ) (l : LossList) → Missing s g i l → count (held_in g i) s.positions + l.len ≡ s.positions
+all_positions s g i l M =
+    let missing : count (among (lost l) l.len) s.positions ≡ l.len = count_among (lost l) s.positions l.len l.ascends M.below in
+    let same = count_ext (among (lost l) l.len) (λ q. not (held_in g i q)) s.positions M.same in
+    let all = count_not (held_in g i) s.positions in
+    omega arith
 
 module _ (s : Shape) (prod : ℕ → ℕ → ℕ) (g : Grid) (i : ℕ) where
   -- a completed block: one codeword agrees
-  pub completed_one : (h : Grid) → Completes s prod g i h → One s prod g i
+  pub completed_one : (h : Grid) → Completes s prod g i h → One (code_of s prod) (Agrees s prod g i)
   completed_one h C = record {
     it = block_of s h i;
     codeword = C.codeword;
@@ -35,7 +43,7 @@ module _ (s : Shape) (prod : ℕ → ℕ → ℕ) (g : Grid) (i : ℕ) where
   }
 
   -- fewer than k positions are held: several agree
-  pub few_several : (inv : ℕ → ℕ) → FieldLaws s.rows prod inv → Fitted s g → count (held_in g i) s.positions < s.sources → Several s prod g i
+  pub few_several : (inv : ℕ → ℕ) → FieldLaws s.rows prod inv → Fitted s g → count (held_in g i) s.positions < s.sources → Several (code_of s prod) (Agrees s prod g i)
   few_several inv laws F lt =
       let agrees : (d : Block) → AgreeAt (code_of s prod) (held_in g i) d (block_of s g i) → Agrees s prod g i d =
       λ d a q ws m e j c p r. a q m (ap is_some e) j c p r ∙ same_read s prod _ _ e j c p r in
@@ -53,22 +61,31 @@ module _ (s : Shape) (prod : ℕ → ℕ → ℕ) (g : Grid) (i : ℕ) where
       }
 
   -- contradictory packets: none agrees
-  pub contradictory : (l : LossList) → Missing s g i l → (e : ℕ × List ℕ) (n : NoPackets s prod l (block_of s g i) e) → Contradictory s prod g i n.sum n.word
-  contradictory l M e n = record {
-    none = λ d is a. n.contradicted.none d is (agree_off s prod l g i M d a);
-    list = l;
-    missing = M;
-    contradicted = n.contradicted;
-  }
+  pub contradictory : (l : LossList) → Missing s g i l → (e : ℕ × List ℕ) (n : NoPackets s prod l (block_of s g i) e) → Contradictory (code_of s prod) (Agrees s prod g i) (missing_in s g i) n.sum n.word
+  contradictory l M e n =
+      let found = n.contradicted in
+      let missing : missing_in s g i ≡ l.len = let k = all_positions s g i l M in omega arith in
+      record {
+        none = λ d is a. found.none d is (agree_off s prod l g i M d a);
+        solved = found.d;
+        agrees = agree_held s prod l g i M found.d found.solved.agrees;
+        zero = λ μ lt. found.solved.zero μ (rw missing at lt);
+        only = λ d a z. found.solved.only d (agree_off s prod l g i M d a) (λ μ lt. z μ (rw missing lt));
+        sum_lt = found.sum_lt;
+        word_lt = found.word_lt;
+        lower = found.lower;
+        before = found.before;
+        here = found.here;
+      }
 
-  one_several : {A : Type 0} → One s prod g i → Several s prod g i → A
+  one_several : {A : Type 0} → One (code_of s prod) (Agrees s prod g i) → Several (code_of s prod) (Agrees s prod g i) → A
   one_several o v = absurd (v.differ (λ q h j c p r.
       o.only v.one v.codeword_one v.agrees_one q h j c p r ∙ sym (o.only v.other v.codeword_other v.agrees_other q h j c p r)))
 
-  one_none : {A : Type 0} → One s prod g i → NoCodeword s prod g i → A
+  one_none : {A : Type 0} → One (code_of s prod) (Agrees s prod g i) → NoCodeword (code_of s prod) (Agrees s prod g i) → A
   one_none o n = absurd (n o.it o.codeword o.agrees)
 
-  several_none : {A : Type 0} → Several s prod g i → NoCodeword s prod g i → A
+  several_none : {A : Type 0} → Several (code_of s prod) (Agrees s prod g i) → NoCodeword (code_of s prod) (Agrees s prod g i) → A
   several_none v n = absurd (n v.one v.codeword_one v.agrees_one)
 
   apart : {A : Type 0} {e : ℕ × List ℕ} → None ≡ Some e → A
@@ -76,7 +93,7 @@ module _ (s : Shape) (prod : ℕ → ℕ → ℕ) (g : Grid) (i : ℕ) where
 
   -- how many codewords agree decides the answer
   module _ (r : Result Whole Refusal) where
-    pub judged_whole : One s prod g i → refused_with r ≡ None → Judged s prod g i r
+    pub judged_whole : One (code_of s prod) (Agrees s prod g i) → refused_with r ≡ None → Judged s prod g i r
     judged_whole o e = record {
       whole = λ _. e;
       is_whole = λ _. o;
@@ -86,7 +103,7 @@ module _ (s : Shape) (prod : ℕ → ℕ → ℕ) (g : Grid) (i : ℕ) where
       is_contradictory = λ sum word f. apart (sym e ∙ f);
     }
 
-    pub judged_few : Several s prod g i → refused_with r ≡ Some (7, []) → Judged s prod g i r
+    pub judged_few : Several (code_of s prod) (Agrees s prod g i) → refused_with r ≡ Some (7, []) → Judged s prod g i r
     judged_few v e = record {
       whole = λ o. one_several o v;
       is_whole = λ f. apart (sym f ∙ e);
@@ -96,7 +113,7 @@ module _ (s : Shape) (prod : ℕ → ℕ → ℕ) (g : Grid) (i : ℕ) where
       is_contradictory = λ sum word f. let q : ◌≡◌ {A = ℕ} 7 8 = grind (arith, e, f) in absurd (omega arith);
     }
 
-    pub judged_none : (sum word : ℕ) → Contradictory s prod g i sum word → refused_with r ≡ Some (8, sum ∷ word ∷ []) → Judged s prod g i r
+    pub judged_none : (sum word : ℕ) → Contradictory (code_of s prod) (Agrees s prod g i) (missing_in s g i) sum word → refused_with r ≡ Some (8, sum ∷ word ∷ []) → Judged s prod g i r
     judged_none sum word n e = record {
       whole = λ o. one_none o n.none;
       is_whole = λ f. apart (sym f ∙ e);
@@ -106,16 +123,8 @@ module _ (s : Shape) (prod : ℕ → ℕ → ℕ) (g : Grid) (i : ℕ) where
       is_contradictory = λ a b f.
           let first : sum ≡ a = grind (arith, e, f) in
           let second : word ≡ b = grind (arith, e, f) in
-          subst₂ (λ a b. Contradictory s prod g i a b) first second n;
+          subst₂ (λ a b. Contradictory (code_of s prod) (Agrees s prod g i) (missing_in s g i) a b) first second n;
     }
-
--- the held and the missing positions are all positions
-pub all_positions : (s : Shape) (g : Grid) (i : ℕ) (l : LossList) → Missing s g i l → count (held_in g i) s.positions + l.len ≡ s.positions
-all_positions s g i l M =
-    let missing : count (among (lost l) l.len) s.positions ≡ l.len = count_among (lost l) s.positions l.len l.ascends M.below in
-    let same = count_ext (among (lost l) l.len) (λ q. not (held_in g i q)) s.positions M.same in
-    let all = count_not (held_in g i) s.positions in
-    omega arith
 
 -- the checks of a repair pass
 pub repair_passes : (m : Meaning) (s : Shape) (i : ℕ) (work : List ℕ) → m.shape ≡ Some s → None ≡ count_refusal m i → None ≡ run_refusal s (parity_of s + 1) work 0 → few_refusal s m.grid i ≡ None

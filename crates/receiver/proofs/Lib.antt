@@ -1,4 +1,4 @@
-mod Slots
+pub mod Slots
 mod Counts
 mod Missing
 mod Reading

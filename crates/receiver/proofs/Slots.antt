@@ -5,7 +5,7 @@ use Rattle.std.proofs.lemmas.Bool.Decides.{same_from_decides}
 use Rattle.store.specs.Grids.{Grid, get_refusal, packet_or}
 use Rattle.receiver.specs.Calls.{same_words, slot_holds}
 
-same_decides : (xs ys : List ℕ) → Decides (same_words xs ys) (xs ≡ ys)
+pub same_decides : (xs ys : List ℕ) → Decides (same_words xs ys) (xs ≡ ys)
 same_decides = compares_Decides same_words (search rules)
 
 -- a slot that holds just these words

@@ -1,12 +1,11 @@
 -- The packets that a block of a grid holds, and the codewords that have them.
-use Rattle.std.specs.Prelude.{◌≡◌, ℕ, ◌<◌, ◌≤◌, not, List, [], Some}
-use Rattle.algebra.specs.Code.{Block, Codeword, SamePacket, SameBlock, among}
+use Rattle.std.specs.Prelude.{◌≡◌, ℕ, ◌+◌, ◌-◌, ◌*◌, ◌<◌, ◌≤◌, ◌≢◌, not, List, [], Some}
+use Rattle.algebra.specs.Code.{Code, Block, Codeword, SamePacket, ZeroPacket, SameBlock, syndrome, among, count}
 use Rattle.layout.specs.declared.shape.Shape.{Shape}
 use Rattle.layout.specs.declared.losses.LossList.{LossList}
 use Rattle.layout.specs.Sizes.{parity_of, lost, LostBelow}
 use Rattle.layout.specs.Blocks.{code_of, packet_in}
 use Rattle.store.specs.Grids.{Grid, packet_or}
-use Rattle.code.specs.Lost.{Contradicted}
 use Rattle.receiver.specs.Calls.{held_in}
 
 -- block i of a grid, with zeros at the positions that it does not hold
@@ -19,35 +18,48 @@ pub record Missing (s : Shape) (g : Grid) (i : ℕ) (l : LossList) : Type 0 wher
   pub below : LostBelow l s.positions
   pub few : l.len ≤ parity_of s
 
-module _ (s : Shape) (prod : ℕ → ℕ → ℕ) (g : Grid) (i : ℕ) where
-  -- a block has every packet that block i holds
-  abbrev pub Agrees : Block → Type 0
-  Agrees d = (q : ℕ) (ws : List ℕ) → q < s.positions → g.slots i q ≡ Some ws → SamePacket (code_of s prod) (d q) (packet_in s.words ws)
-
-  -- exactly one codeword agrees
+-- the codewords of a code that agree with something: just one, two that differ, or none
+module _ (C : Code) (Agree : Block → Type 0) where
   pub record One : Type 0 where
     pub it : Block
-    pub codeword : Codeword (code_of s prod) it
-    pub agrees : Agrees it
-    pub only : (d : Block) → Codeword (code_of s prod) d → Agrees d → SameBlock (code_of s prod) d it
+    pub codeword : Codeword C it
+    pub agrees : Agree it
+    pub only : (d : Block) → Codeword C d → Agree d → SameBlock C d it
 
-  -- two codewords that differ agree
   pub record Several : Type 0 where
     pub one : Block
     pub other : Block
-    pub codeword_one : Codeword (code_of s prod) one
-    pub codeword_other : Codeword (code_of s prod) other
-    pub agrees_one : Agrees one
-    pub agrees_other : Agrees other
-    pub differ : SameBlock (code_of s prod) one other → ⊥
+    pub codeword_one : Codeword C one
+    pub codeword_other : Codeword C other
+    pub agrees_one : Agree one
+    pub agrees_other : Agree other
+    pub differ : SameBlock C one other → ⊥
 
-  -- no codeword agrees
   abbrev pub NoCodeword : Type 0
-  NoCodeword = (d : Block) → Codeword (code_of s prod) d → Agrees d → ⊥
+  NoCodeword = (d : Block) → Codeword C d → Agree d → ⊥
 
-  -- no codeword agrees, and with the missing packets solved `sum` is the lowest sum that is not zero, `word` its first word that is not
-  pub record Contradictory (sum word : ℕ) : Type 0 where
+  -- the first sums of a block are zero
+  abbrev pub ZeroSums : ℕ → Block → Type 0
+  ZeroSums n d = (μ : ℕ) → μ < n → ZeroPacket C (syndrome C d μ)
+
+  -- no codeword agrees: with the missing packets solved, so that as many sums are zero, sum number `sum` is the lowest that is not, and
+  -- `word` its first word that is not
+  pub record Contradictory (missing sum word : ℕ) : Type 0 where
     pub none : NoCodeword
-    pub list : LossList
-    pub missing : Missing s g i list
-    pub contradicted : Contradicted s prod list (block_of s g i) sum word
+    pub solved : Block
+    pub agrees : Agree solved
+    pub zero : ZeroSums missing solved
+    pub only : (d : Block) → Agree d → ZeroSums missing d → SameBlock C d solved
+    pub sum_lt : sum < C.parity
+    pub word_lt : word < C.rows * C.words
+    pub lower : ZeroSums sum solved
+    pub before : (r c : ℕ) → r < C.rows → c < C.words → r * C.words + c < word → syndrome C solved sum r c ≡ 0
+    pub here : (r c : ℕ) → r < C.rows → c < C.words → r * C.words + c ≡ word → syndrome C solved sum r c ≢ 0
+
+-- how many positions of a block are not held
+abbrev pub missing_in : Shape → Grid → ℕ → ℕ
+missing_in s g i = s.positions - count (held_in g i) s.positions
+
+-- a block has every packet that block i of a grid holds
+abbrev pub Agrees : Shape → (ℕ → ℕ → ℕ) → Grid → ℕ → Block → Type 0
+Agrees s prod g i d = (q : ℕ) (ws : List ℕ) → q < s.positions → g.slots i q ≡ Some ws → SamePacket (code_of s prod) (d q) (packet_in s.words ws)

@@ -12,7 +12,7 @@ use Rattle.receiver.specs.declared.Whole.{Whole}
 use Rattle.receiver.specs.Sound.{IsPacket}
 use Rattle.receiver.specs.Meaning.{Meaning}
 use Rattle.receiver.specs.Calls.{of_shape, block_refusal, held_in}
-use Rattle.receiver.specs.Blocks.{block_of, Agrees, One, Several, NoCodeword, Contradictory}
+use Rattle.receiver.specs.Blocks.{block_of, One, Several, NoCodeword, Contradictory, missing_in, Agrees}
 
 -- refusal 7, unless k positions of the block are held
 abbrev pub few_refusal : Shape → Grid → ℕ → Option (ℕ × List ℕ)
@@ -59,7 +59,7 @@ pub record RefusedAs8 (prod : ℕ → ℕ → ℕ) (m : Meaning) (i : ℕ) (work
   pub sum : ℕ
   pub word : ℕ
   pub refusal : e ≡ (8, sum ∷ word ∷ [])
-  pub contradictory : Contradictory s prod m.grid i sum word
+  pub contradictory : Contradictory (code_of s prod) (Agrees s prod m.grid i) (missing_in s m.grid i) sum word
   pub same : after ≡ m
   pub cleared : ZeroRun work'
 
@@ -69,12 +69,12 @@ AfterRepair prod m i work work' (Err e) after = Unrepaired m i work work' (said 
 
 -- the answer, by how many codewords agree with what the block holds
 pub record Judged (s : Shape) (prod : ℕ → ℕ → ℕ) (g : Grid) (i : ℕ) (r : Result Whole Refusal) : Type 0 where
-  pub whole : One s prod g i → refused_with r ≡ None
-  pub is_whole : refused_with r ≡ None → One s prod g i
-  pub few : Several s prod g i → refused_with r ≡ Some (7, [])
-  pub is_few : refused_with r ≡ Some (7, []) → Several s prod g i
-  pub contradictory : NoCodeword s prod g i → (sum word : ℕ) × (refused_with r ≡ Some (8, sum ∷ word ∷ []))
-  pub is_contradictory : (sum word : ℕ) → refused_with r ≡ Some (8, sum ∷ word ∷ []) → Contradictory s prod g i sum word
+  pub whole : One (code_of s prod) (Agrees s prod g i) → refused_with r ≡ None
+  pub is_whole : refused_with r ≡ None → One (code_of s prod) (Agrees s prod g i)
+  pub few : Several (code_of s prod) (Agrees s prod g i) → refused_with r ≡ Some (7, [])
+  pub is_few : refused_with r ≡ Some (7, []) → Several (code_of s prod) (Agrees s prod g i)
+  pub contradictory : NoCodeword (code_of s prod) (Agrees s prod g i) → (sum word : ℕ) × (refused_with r ≡ Some (8, sum ∷ word ∷ []))
+  pub is_contradictory : (sum word : ℕ) → refused_with r ≡ Some (8, sum ∷ word ∷ []) → Contradictory (code_of s prod) (Agrees s prod g i) (missing_in s g i) sum word
 
 -- a repair of a block of the shape with a work run of the right length
 abbrev pub Judges : (ℕ → ℕ → ℕ) → Meaning → ℕ → List ℕ → Result Whole Refusal → Type 0
