@@ -1,0 +1,23 @@
+-- What a board's answers depend on, besides what it is asked.
+use Rattle.std.specs.Prelude.{◌≡◌, ℕ, ◌^◌, ◌<◌}
+use Rattle.galois.specs.Field.{product}
+use Rattle.field.specs.declared.Arithmetic
+use Rattle.store.specs.declared.SlotStore
+
+-- the width and the product of its arithmetic, and how many words its store has
+pub record Board : Type 0 where
+  pub bits : ℕ
+  pub product : ℕ → ℕ → ℕ
+  pub capacity : ℕ
+
+-- a board of an arithmetic and a store; one of either octet and a store
+abbrev pub board : {F S : Type 0} → Arithmetic.Ghosts F → SlotStore.Ghosts S → S → Board
+board f t store = record { bits = f.bits; product = f.prod; capacity = t.capacity store }
+
+abbrev pub octet_board : {S : Type 0} → SlotStore.Ghosts S → S → Board
+octet_board t store = record { bits = 8; product = product 8 0x11D; capacity = t.capacity store }
+
+-- the widths are equal, and the products of all elements
+pub record SameProduct (P Q : Board) : Type 0 where
+  pub width : P.bits ≡ Q.bits
+  pub products : (a b : ℕ) → a < 2 ^ P.bits → b < 2 ^ P.bits → P.product a b ≡ Q.product a b
