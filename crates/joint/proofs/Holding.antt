@@ -1,65 +1,55 @@
--- From the packets of the frames to those of the blocks, and back.
-use Rattle.std.proofs.Common.{◌≡◌, ℕ, ◌+◌, ◌<◌, inl, inr, Bool, true, false, not, List, Some, None, Option, sym, ap, ◌∙◌, subst, arith}
+-- What the fetches of a board gave, frame by frame and packet by packet.
+use Rattle.std.proofs.Common.{◌≡◌, ℕ, ◌+◌, ◌-◌, ◌<◌, ◌≤◌, inl, inr, List, None, Some, refl, sym, ◌∙◌, subst, arith}
 use Rattle.std.proofs.lemmas.Bool.{cases_lt}
-use Rattle.std.specs.Str.{bytes_eq}
-use Rattle.std.proofs.lemmas.Slice.Eq.{bytes_eq-Decides}
+use Rattle.std.specs.List.{slice_get}
 use Rattle.layout.specs.declared.shape.Shape.{Shape}
-use Rattle.store.specs.Grids.{Grid, packet_or}
 use Rattle.sender.specs.Numbering.{block_of, position_of, last}
 use Rattle.sender.specs.Sent.{payload_of}
 use Rattle.sender.proofs.Places.{each_once}
-use Rattle.receiver.specs.Meaning.{Meaning}
-use Rattle.receiver.specs.Calls.{of_shape, block_refusal, position_refusal, length_refusal, empty_refusal, read_refusal, fetch_refusal}
-use Rattle.refusal.specs.Numbers.{or_else}
-use Rattle.sender.proofs.Parts.{both_pass}
-use Rattle.joint.specs.Held.{HoldsAll, HoldsBelow}
+use Rattle.history.specs.declared.call.Entry.{Entry}
+use Rattle.joint.specs.Held.{Gave, GaveIn, GaveAll, GaveBelow}
 
-equal : (b : Bool) → false ≡ not b → b ≡ true
-equal true h = cc
-equal false h = absurd (cc)
+module _ (s : Shape) (image parity : List ℕ) (fetches : List Entry) where
+  -- the packet of a frame was given
+  abbrev pub GaveFrame : ℕ → Type 0
+  GaveFrame f = GaveIn (block_of s f) (position_of s f) (payload_of s image parity f) (slice_get fetches (f - 1))
 
-other : (b : Bool) → true ≡ not b → b ≡ true → ⊥
-other true h e = cc
-other false h e = cc
-
--- what a comparison of packets says
-pub same_words : (xs ys : List ℕ) → false ≡ not (bytes_eq xs ys) → xs ≡ ys
-same_words xs ys h = (bytes_eq-Decides xs ys).0 (equal (bytes_eq xs ys) h)
-
-pub other_words : (xs ys : List ℕ) → true ≡ not (bytes_eq xs ys) → xs ≡ ys → ⊥
-other_words xs ys h e = other (bytes_eq xs ys) h ((bytes_eq-Decides xs ys).1 e)
-
-filled : (o : Option (List ℕ)) (run : List ℕ) → empty_refusal o ≡ None → o ≡ Some (packet_or o run)
-filled (Some ws) run h = cc
-filled None run h = absurd (cc)
-
--- a fetch that is not refused finds a packet
-pub fetched : (m : Meaning) (i j : ℕ) (run found : List ℕ) → None ≡ fetch_refusal m i j run → found ≡ packet_or (m.grid.slots i j) run → m.grid.slots i j ≡ Some found
-fetched m i j run found h is = filled (m.grid.slots i j) run (of m.shape (sym h)) ∙ ap Some (sym is) where
-  of : (o : Option Shape) → of_shape o (λ s. or_else (block_refusal s i) (read_refusal s m.grid i j run)) ≡ None → empty_refusal (m.grid.slots i j) ≡ None
-  of (Some s) h =
-      let inside = (both_pass (block_refusal s i) _ (sym h)).1 in
-      let long = (both_pass (position_refusal s j) _ (sym inside)).1 in
-      (both_pass (length_refusal s run) _ (sym long)).1
-  of None h = absurd (cc)
-
-module _ (s : Shape) (image parity : List ℕ) (g : Grid) where
   -- one frame more
-  pub holds_more : (n : ℕ) (ws : List ℕ) → HoldsBelow s image parity g n → g.slots (block_of s n) (position_of s n) ≡ Some ws → ws ≡ payload_of s image parity n
-      → HoldsBelow s image parity g (n + 1)
-  holds_more n ws below here same f one lt = elim (cases_lt f n) [
+  pub gave_more : (n : ℕ) → GaveBelow s image parity fetches n → GaveFrame n → GaveBelow s image parity fetches (n + 1)
+  gave_more n below here f one lt = elim (cases_lt f n) [
     | inl less ↦ below f one less
-    | inr le ↦ let e : n ≡ f = omega arith in subst (λ k. g.slots (block_of s k) (position_of s k) ≡ Some (payload_of s image parity k)) e (here ∙ ap Some same)
+    | inr le ↦ let e : n ≡ f = omega arith in subst GaveFrame e here
   ]
 
   -- every packet comes in a frame
-  pub holds_all : HoldsBelow s image parity g (last s + 1) → HoldsAll s image parity g
-  holds_all below b p lb lp =
+  pub gave_every : GaveBelow s image parity fetches (last s + 1) → GaveAll s image parity fetches
+  gave_every below b p lb lp =
       let c = each_once s b p lb lp in
       let here = below c.frame c.numbered.0 (omega (arith, c.numbered)) in
-      rw c.at.0 at (rw c.at.1 at here)
+      (c.frame, c.numbered.0, c.at.0, c.at.1, rw c.at.0 at (rw c.at.1 at here))
 
   -- and each frame brings one
-  pub holds_one : HoldsAll s image parity g → (f block position : ℕ) (ws : List ℕ) → block ≡ block_of s f → position ≡ position_of s f → block < s.blocks → position < s.positions
-      → g.slots block position ≡ Some ws → ws ≡ payload_of s image parity f
-  holds_one all f block position ws eb ep lb lp here = cc (sym here ∙ all block position lb lp)
+  module _ (all : GaveAll s image parity fetches) (f block position : ℕ) (one : 1 ≤ f) (at : (block ≡ block_of s f) × (position ≡ position_of s f)) (inside : (block < s.blocks) × (position < s.positions)) where
+    gave_one : GaveFrame f
+    gave_one =
+        let lb : block_of s f < s.blocks = subst (λ n. n < s.blocks) at.0 inside.0 in
+        let lp : position_of s f < s.positions = subst (λ n. n < s.positions) at.1 inside.1 in
+        let c = each_once s (block_of s f) (position_of s f) lb lp in
+        let (g, first, block_is, position_is, here) = all (block_of s f) (position_of s f) lb lp in
+        let e : g ≡ f = c.only g first block_is position_is ∙ sym (c.only f one refl refl) in
+        subst (λ k. GaveIn (block_of s f) (position_of s f) (payload_of s image parity f) (slice_get fetches (k - 1))) e here
+
+    -- so the entry of a frame is there, and gave its packet
+    pub entry_there : slice_get fetches (f - 1) ≡ None → ⊥
+    entry_there none = subst (GaveIn (block_of s f) (position_of s f) (payload_of s image parity f)) none gave_one
+
+    pub entry_gave : (words : List ℕ) (e : Entry) → words ≡ payload_of s image parity f → slice_get fetches (f - 1) ≡ Some e → Gave block position words e
+    entry_gave words e same is =
+        let here : Gave (block_of s f) (position_of s f) (payload_of s image parity f) e = subst (GaveIn (block_of s f) (position_of s f) (payload_of s image parity f)) is gave_one in
+        rw (at.0, at.1, same) here
+
+  -- what an entry gave is the packet of its frame
+  pub frame_gave : (f block position : ℕ) (words : List ℕ) (e : Entry) → (block ≡ block_of s f) × (position ≡ position_of s f) → words ≡ payload_of s image parity f
+      → slice_get fetches (f - 1) ≡ Some e → Gave block position words e → GaveFrame f
+  frame_gave f block position words e at same is g =
+      subst (GaveIn (block_of s f) (position_of s f) (payload_of s image parity f)) (sym is) (let h : Gave (block_of s f) (position_of s f) (payload_of s image parity f) e = rw (sym same, sym at.0, sym at.1) g in h)

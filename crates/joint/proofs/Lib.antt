@@ -1,2 +1,3 @@
+mod Asking
 mod Holding
 mod Words

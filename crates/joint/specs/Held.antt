@@ -1,25 +1,47 @@
--- What a board holds of a transmission.
-use Rattle.std.specs.Prelude.{◌≡◌, ℕ, ◌<◌, ◌≤◌, List, Some}
+-- What a board gave of a transmission.
+use Rattle.std.specs.Prelude.{◌≡◌, ℕ, ◌+◌, ◌-◌, ◌<◌, ◌≤◌, List, [], ◌∷◌, Some, None, Option, slice_get, drop}
+use Rattle.refusal.specs.Numbers.{or_else}
 use Rattle.layout.specs.declared.shape.Shape.{Shape}
-use Rattle.store.specs.Grids.{Grid}
-use Rattle.field.specs.declared.Arithmetic
-use Rattle.store.specs.declared.SlotStore
-use Rattle.receiver.specs.Meaning.{means}
 use Rattle.sender.specs.Numbering.{block_of, position_of}
 use Rattle.sender.specs.Sent.{packet_at, payload_of}
+use Rattle.history.specs.declared.call.Call.TheVariants.{Fetch}
+use Rattle.history.specs.declared.call.Answer.TheVariants.{Whole, Fetched}
+use Rattle.history.specs.declared.call.Entry.{Entry}
+use Rattle.history.specs.Turns.{refusal_in}
 use Rattle.joint.specs.declared.board.Board.{Board}
 use Rattle.joint.specs.declared.head_end.HeadEnd.{HeadEnd}
 
--- every packet that was sent, of the image and of the parity, in its slot
-abbrev pub HoldsAll : Shape → List ℕ → List ℕ → Grid → Type 0
-HoldsAll s image parity grid =
-    (block position : ℕ) → block < s.blocks → position < s.positions → grid.slots block position ≡ Some (packet_at s image parity block position)
+-- a fetch of a position of a block was done, and the run has these words
+pub record Gave (block position : ℕ) (words : List ℕ) (e : Entry) : Type 0 where
+  pub call : e.call ≡ Fetch block position
+  pub answer : e.answer ≡ Fetched
+  pub run : e.run.items ≡ words
 
--- every packet that a head-end sends, in the slots of a board
-abbrev pub HoldsSent : {F S : Type 0} {f : Arithmetic.Ghosts F} {t : SlotStore.Ghosts S} → HeadEnd → Board F S f t → Type 0
-HoldsSent h b = HoldsAll h.shape h.image.items h.parity.items (means b.receiver).grid
+abbrev pub GaveIn : ℕ → ℕ → List ℕ → Option Entry → Type 0
+GaveIn block position words (Some e) = Gave block position words e
+GaveIn block position words None = ⊥
+
+-- every packet that was sent, of the image and of the parity, was fetched: in the order of the frames that carry them
+abbrev pub GaveAll : Shape → List ℕ → List ℕ → List Entry → Type 0
+GaveAll s image parity fetches =
+    (block position : ℕ) → block < s.blocks → position < s.positions
+    → (f : ℕ) × (1 ≤ f) × (block_of s f ≡ block) × (position_of s f ≡ position) × GaveIn block position (packet_at s image parity block position) (slice_get fetches (f - 1))
 
 -- the packets of the frames from 1 up to one, which is left out
-abbrev pub HoldsBelow : Shape → List ℕ → List ℕ → Grid → ℕ → Type 0
-HoldsBelow s image parity grid end =
-    (f : ℕ) → 1 ≤ f → f < end → grid.slots (block_of s f) (position_of s f) ≡ Some (payload_of s image parity f)
+abbrev pub GaveBelow : Shape → List ℕ → List ℕ → List Entry → ℕ → Type 0
+GaveBelow s image parity fetches end =
+    (f : ℕ) → 1 ≤ f → f < end → GaveIn (block_of s f) (position_of s f) (payload_of s image parity f) (slice_get fetches (f - 1))
+
+-- a board gave every packet that a head-end sends: the fetches come behind the frames and a repair of each block
+abbrev pub GaveSent : HeadEnd → Board → Type 0
+GaveSent h b = GaveAll h.shape h.image.items h.parity.items (drop h.shape.blocks (drop b.heard b.entries.items))
+
+-- there is an entry, and its block became whole with so many packets restored
+abbrev pub WholeIn : ℕ → Option Entry → Type 0
+WholeIn n (Some e) = e.answer ≡ Whole n
+WholeIn n None = ⊥
+
+-- the first refusal among the answers
+abbrev pub first_refusal : List Entry → Option (ℕ × List ℕ)
+first_refusal [] = None
+first_refusal (e ∷ entries) = or_else (refusal_in e.answer) (first_refusal entries)

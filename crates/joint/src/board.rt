@@ -1,80 +1,139 @@
-// One board: frames in from its link, blocks repaired, packets out and compared with those that were sent.
-ghost use Rattle.std.specs.Prelude.{◌↔◌, IsTrue, IfOk};
-ghost use Rattle.receiver.specs.Meaning.{means};
-ghost use Rattle.joint.specs.Held.{HoldsAll, HoldsSent};
+//! One board: what it is asked, and what it answered.
+ghost use Rattle.std.specs.Prelude.{◌≡◌, ◌↔◌, IsTrue, IfOk, drop, slice_get};
+ghost use Rattle.refusal.specs.Numbers.{refused_with};
+ghost use Rattle.joint.specs.Asked.{Asked};
+ghost use Rattle.joint.specs.Held.{Gave, GaveAll, GaveSent, WholeIn, first_refusal};
 
 use crate::head_end::{HeadEnd, frames};
 use crate::link::Link;
-use field::Arithmetic;
-use receiver::Receiver;
+use crate::script::{fetches, repairs, takes};
+use anyhow::anyhow;
+use history::call::{Answer, Call, Entry};
+use layout::shape::Shape;
 use refusal::Refusal;
 use sender::Transmission;
 use sender::numbering::place;
-use store::SlotStore;
+use std::alloc::Global;
 
+/// Its link, and the calls of its receiver with their answers.
 #[derive(Drop)]
-pub struct Board<F: Arithmetic, S: SlotStore> {
+pub struct Board {
     name: &'static str,
     link: Link,
-    receiver: Receiver<F, S>,
-    restored: usize,
+    /// The frames that arrive, a repair of every block, and a fetch of every packet.
+    pub entries: Vec<Entry>,
+    /// How many frames arrive.
+    heard: usize,
 }
 
-impl<F: Arithmetic, S: SlotStore> Board<F, S> {
-    pub fn new(name: &'static str, link: Link, receiver: Receiver<F, S>) -> Board<F, S> {
-        Board {
-            name,
-            link,
-            receiver,
-            restored: 0,
+/// Whether an entry is a fetch that gave these words.
+fn gave(entry: &Entry, block: usize, position: usize, words: &[u32]) -> bool
+    ensures { IsTrue result ↔ Gave block position words.now entry.now }
+{
+    entry.call == (Call::Fetch { block, position })
+        && entry.answer == Answer::Fetched
+        && *entry.run == *words
+}
+
+/// Whether every packet that was sent was fetched, of the image and of the parity.
+fn gave_all(fetches: &[Entry], sent: Transmission<'_>) -> Result<bool, Refusal>
+    ensures { IfOk result (λ all. IsTrue all ↔ GaveAll
+        sent.entry.shape.now sent.entry.image.now sent.entry.parity.now fetches.now) }
+{
+    for number in 1..frames(sent.shape) {
+        let (block, position) = place(sent.shape, number)?;
+        let words = sent.payload(number)?;
+        let Some(entry) = fetches.get(number - 1) else {
+            return Ok(false);
+        };
+        if !gave(entry, block, position, words) {
+            return Ok(false);
         }
     }
+    Ok(true)
+}
 
-    // Takes the frame of a number, unless the link loses it.
-    pub fn hear(&mut self, number: usize, frame: &[u32]) -> Result<(), Refusal> {
-        if !self.link.loses(number)? {
-            self.receiver.take(frame)?;
+impl Board {
+    pub fn new(
+        heap: Global,
+        name: &'static str,
+        link: Link,
+        head_end: &HeadEnd,
+    ) -> anyhow::Result<Board>
+        ensures { IfOk result (Asked head_end.now) }
+    {
+        let mut entries = takes(heap, head_end, &link)?;
+        let heard = entries.len();
+        entries.append(&mut repairs(heap, head_end.shape())?)?;
+        entries.append(&mut fetches(heap, head_end.shape())?)?;
+        Ok(Board {
+            name,
+            link,
+            entries,
+            heard,
+        })
+    }
+
+    /// Refused with the first refusal among the answers, if there is one.
+    pub fn check(&self) -> Result<(), Refusal>
+        ensures { refused_with result ≡ first_refusal self.now.entries.items }
+    {
+        for entry in &self.entries {
+            if let Answer::Refused(refusal) = entry.answer {
+                return Err(refusal);
+            }
         }
         Ok(())
     }
 
-    // Restores the packets of a block that did not arrive.
-    pub fn repair(
-        &mut self,
-        rt: &HostRuntime,
-        block: usize,
-        work: &mut [u32],
-    ) -> anyhow::Result<()> {
-        let whole = self.receiver.repair(block, work)?;
-        self.restored = self.restored.saturating_add(whole.restored);
+    /// The repairs of all blocks and the fetches of all packets: they come behind the frames.
+    fn behind_frames(&self) -> &[Entry]
+        ensures { result.now ≡ drop self.now.heard self.now.entries.items }
+    {
+        self.entries.get(self.heard..).unwrap_or(&[])
+    }
+
+    /// How many packets the repair of a block restored.
+    fn restored(&self, block: usize) -> anyhow::Result<usize>
+        ensures { IfOk result (λ n. WholeIn n
+            (slice_get (drop self.now.heard self.now.entries.items) block)) }
+    {
+        match self.behind_frames().get(block) {
+            Some(Entry {
+                answer: Answer::Whole { restored },
+                ..
+            }) => Ok(*restored),
+            _ => Err(anyhow!("block {block} was not repaired")),
+        }
+    }
+
+    /// Tells how a block was repaired.
+    pub fn tell(&self, rt: &HostRuntime, block: usize) -> anyhow::Result<()> {
+        self.restored(block)?;
         let name = self.name;
         let lost = self.link.lost(block);
         println!(rt; "block {block}: the {name} board lost {lost:?} and restored all")?;
         Ok(())
     }
 
-    // Whether every packet, of the image and of the parity, is the one that was sent; each is fetched into `packet`.
-    fn holds(&self, sent: Transmission<'_>, packet: &mut [u32]) -> Result<bool, Refusal>
-        ensures { IfOk result (λ all. IsTrue all ↔ HoldsAll sent.entry.shape.now sent.entry.image.now sent.entry.parity.now (means self.now.receiver).grid) }
+    /// The fetches of all packets.
+    fn fetches(&self, blocks: usize) -> &[Entry]
+        ensures { result.now ≡ drop blocks (drop self.now.heard self.now.entries.items) }
     {
-        for number in 1..frames(sent.shape) {
-            let (block, position) = place(sent.shape, number)?;
-            self.receiver.fetch(block, position, packet)?;
-            if *packet != *sent.payload(number)? {
-                return Ok(false);
-            }
-        }
-        Ok(true)
+        self.behind_frames().get(blocks..).unwrap_or(&[])
     }
 
-    // Tells how the board fared, and whether it holds what was sent.
+    /// Tells how the board fared, and whether it gave what was sent.
     pub fn report(&self, rt: &HostRuntime, head_end: &HeadEnd) -> anyhow::Result<bool>
-        ensures { IfOk result (λ all. IsTrue all ↔ HoldsSent head_end.now self.now) }
+        ensures { IfOk result (λ all. IsTrue all ↔ GaveSent head_end.now self.now) }
     {
-        let mut packet = vec![in rt.alloc(); 0; head_end.shape().packet()]?;
-        let holds = self.holds(head_end.transmission(), &mut packet)?;
+        let shape = head_end.shape();
+        let mut restored: usize = 0;
+        for block in 0..shape.blocks() {
+            restored = restored.saturating_add(self.restored(block)?);
+        }
+        let holds = gave_all(self.fetches(shape.blocks()), head_end.transmission())?;
         let name = self.name;
-        let restored = self.restored;
         let verdict = if holds { "holds" } else { "does NOT hold" };
         println!(rt;
             "the {name} board restored {restored} packets and {verdict} the image that was sent"

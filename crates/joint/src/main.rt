@@ -3,26 +3,22 @@
 #![tactic(auto)]
 
 ghost use Rattle.std.specs.Prelude.{◌↔◌, IsTrue, IfOk};
-ghost use Rattle.joint.specs.Held.{HoldsSent};
+ghost use Rattle.joint.specs.Held.{GaveSent};
 
 mod board;
 mod head_end;
 mod link;
+mod script;
 
 use anyhow::{anyhow, ensure};
 use board::Board;
-use field::Arithmetic;
-use field::octet::OctetTables;
-use field::stepped::SteppedOctet;
-use field::tabled::Tabled;
-use head_end::{HeadEnd, frames, shape_for};
+use head_end::{HeadEnd, shape_for};
+use history::trial::trial_of_octets;
 use layout::shape::{Dimensions, Shape};
 use link::Link;
-use receiver::Receiver;
 use std::alloc::Global;
 use std::process::ExitCode;
 use std::{env, fs};
-use store::SlotStore;
 use store::memory::MemoryStore;
 use store::nor::NorStore;
 use store::transposed::Transposed;
@@ -78,44 +74,15 @@ fn announce(rt: &HostRuntime, path: &str, length: usize, shape: &Shape) -> anyho
     Ok(())
 }
 
-// Sends every frame once, in order.
-fn broadcast<F: Arithmetic, S: SlotStore, G: Arithmetic, T: SlotStore>(
-    heap: Global,
-    head_end: &HeadEnd,
-    stepped: &mut Board<F, S>,
-    tabled: &mut Board<G, T>,
-) -> anyhow::Result<()> {
-    for number in 0..frames(head_end.shape()) {
-        let frame = head_end.frame(heap, number)?;
-        stepped.hear(number, &frame)?;
-        tabled.hear(number, &frame)?;
-    }
-    Ok(())
-}
-
-// Has both boards repair every block.
-fn repair<F: Arithmetic, S: SlotStore, G: Arithmetic, T: SlotStore>(
-    rt: &HostRuntime,
-    shape: &Shape,
-    stepped: &mut Board<F, S>,
-    tabled: &mut Board<G, T>,
-) -> anyhow::Result<()> {
-    let mut work = vec![in rt.alloc(); 0; (shape.parity() + 1) * shape.packet()]?;
-    for block in 0..shape.blocks() {
-        stepped.repair(rt, block, &mut work)?;
-        tabled.repair(rt, block, &mut work)?;
-    }
-    Ok(())
-}
-
 // Whether both boards hold what was sent.
-fn compare<F: Arithmetic, S: SlotStore, G: Arithmetic, T: SlotStore>(
+fn compare(
     rt: &HostRuntime,
     head_end: &HeadEnd,
-    stepped: &Board<F, S>,
-    tabled: &Board<G, T>,
+    stepped: &Board,
+    tabled: &Board,
 ) -> anyhow::Result<bool>
-    ensures { IfOk result (λ both. IsTrue both ↔ (HoldsSent head_end.now stepped.now × HoldsSent head_end.now tabled.now)) }
+    ensures { IfOk result (λ both. IsTrue both ↔
+        (GaveSent head_end.now stepped.now × GaveSent head_end.now tabled.now)) }
 {
     let first = stepped.report(rt, head_end)?;
     let second = tabled.report(rt, head_end)?;
@@ -129,23 +96,22 @@ fn boards(rt: &HostRuntime, head_end: &HeadEnd) -> anyhow::Result<bool> {
     let slots = shape.blocks() * shape.positions() * (shape.packet() + 1);
     let mut memory = vec![in heap; 0; slots]?;
     let mut flash = vec![in heap; 0; slots + 1]?;
-    let mut stepped = Board::new(
-        "stepped",
-        Link::new(heap, shape, 0x2545_F491)?,
-        Receiver::new(SteppedOctet, MemoryStore::new(&mut memory)),
+    let stepped_link = Link::new(heap, shape, 0x2545_F491)?;
+    let tabled_link = Link::new(heap, shape, 0x9E37_79B9)?;
+    let mut stepped = Board::new(heap, "stepped", stepped_link, head_end)?;
+    let mut tabled = Board::new(heap, "tabled", tabled_link, head_end)?;
+    trial_of_octets(
+        MemoryStore::new(&mut memory),
+        &mut stepped.entries,
+        Transposed(NorStore::new(&mut flash)),
+        &mut tabled.entries,
     );
-    let mut tabled = Board::new(
-        "tabled",
-        Link::new(heap, shape, 0x9E37_79B9)?,
-        Receiver::new(
-            Tabled {
-                tables: OctetTables,
-            },
-            Transposed(NorStore::new(&mut flash)),
-        ),
-    );
-    broadcast(heap, head_end, &mut stepped, &mut tabled)?;
-    repair(rt, &shape, &mut stepped, &mut tabled)?;
+    stepped.check()?;
+    tabled.check()?;
+    for block in 0..shape.blocks() {
+        stepped.tell(rt, block)?;
+        tabled.tell(rt, block)?;
+    }
     compare(rt, head_end, &stepped, &tabled)
 }
 

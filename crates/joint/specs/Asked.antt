@@ -1,0 +1,48 @@
+-- What a board is asked: to take the frames that arrive, to repair every block, and to give every packet.
+use Rattle.std.specs.Prelude.{◌≡◌, ℕ, ◌+◌, ◌≤◌, List, ◌++◌, length, Some, slice_get}
+use Rattle.layout.specs.declared.shape.Shape.{Shape}
+use Rattle.layout.specs.Sizes.{parity_of, Packets}
+use Rattle.frame.specs.Frames.{parse}
+use Rattle.sender.specs.Numbering.{block_of, position_of, last}
+use Rattle.sender.specs.Sent.{sent}
+use Rattle.history.specs.declared.call.Call.TheVariants.{Take, Repair, Fetch}
+use Rattle.history.specs.declared.call.Entry.{Entry}
+use Rattle.joint.specs.declared.board.Board.{Board}
+use Rattle.joint.specs.declared.head_end.HeadEnd.{HeadEnd}
+
+-- a fact of each entry, by its number
+abbrev pub AtEach : (ℕ → Entry → Type 0) → List Entry → Type 0
+AtEach P entries = (k : ℕ) (e : Entry) → slice_get entries k ≡ Some e → P k e
+
+-- to take a frame that a head-end sends
+pub record AsksFrame (h : HeadEnd) (k : ℕ) (e : Entry) : Type 0 where
+  pub call : e.call ≡ Take
+  pub frame : (number : ℕ) × (number ≤ last h.shape) × (parse e.run.items ≡ sent h.shape h.image.items h.parity.items number)
+
+-- to repair block k, with a work run of its length
+pub record AsksRepair (s : Shape) (k : ℕ) (e : Entry) : Type 0 where
+  pub call : e.call ≡ Repair k
+  pub right : Packets s (parity_of s + 1) e.run.items
+
+-- to fetch the packet of frame k + 1, into a run of its length
+pub record AsksFetch (s : Shape) (k : ℕ) (e : Entry) : Type 0 where
+  pub call : e.call ≡ Fetch (block_of s (k + 1)) (position_of s (k + 1))
+  pub right : Packets s 1 e.run.items
+
+-- the repairs of all blocks; the fetches of all packets
+abbrev pub Repairs : Shape → List Entry → Type 0
+Repairs s entries = (length entries ≡ s.blocks) × AtEach (AsksRepair s) entries
+
+abbrev pub FetchesAll : Shape → List Entry → Type 0
+FetchesAll s entries = (length entries ≡ last s) × AtEach (AsksFetch s) entries
+
+-- all that a board is asked, in this order
+pub record Asked (h : HeadEnd) (b : Board) : Type 0 where
+  pub frames : List Entry
+  pub repairs : List Entry
+  pub fetches : List Entry
+  pub entries_are : b.entries.items ≡ frames ++ (repairs ++ fetches)
+  pub heard : length frames ≡ b.heard
+  pub taken : AtEach (AsksFrame h) frames
+  pub repaired : Repairs h.shape repairs
+  pub fetched : FetchesAll h.shape fetches

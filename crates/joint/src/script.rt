@@ -1,0 +1,50 @@
+//! What a board is asked: to take the frames that arrive, to repair every block, and to give every packet.
+ghost use Rattle.std.specs.Prelude.{IfOk};
+ghost use Rattle.joint.specs.Asked.{AtEach, AsksFrame, Repairs, FetchesAll};
+
+use crate::head_end::{HeadEnd, frames};
+use crate::link::Link;
+use history::call::{Call, Entry};
+use layout::shape::Shape;
+use sender::numbering::place;
+use std::alloc::Global;
+
+/// To take each frame that the link does not lose, in order.
+pub fn takes(heap: Global, head_end: &HeadEnd, link: &Link) -> anyhow::Result<Vec<Entry>>
+    ensures { IfOk result (λ entries. AtEach (AsksFrame head_end.now) entries.items) }
+{
+    let mut entries = Vec::new(heap);
+    for number in 0..frames(head_end.shape()) {
+        if link.loses(number)? {
+            continue;
+        }
+        let frame = head_end.frame(heap, number)?;
+        entries.push(Entry::new(Call::Take, frame))?;
+    }
+    Ok(entries)
+}
+
+/// To repair each block.
+pub fn repairs(heap: Global, shape: &Shape) -> anyhow::Result<Vec<Entry>>
+    ensures { IfOk result (λ entries. Repairs shape.now entries.items) }
+{
+    let mut entries = Vec::new(heap);
+    for block in 0..shape.blocks() {
+        let work = vec![in heap; 0; (shape.parity() + 1) * shape.packet()]?;
+        entries.push(Entry::new(Call::Repair { block }, work))?;
+    }
+    Ok(entries)
+}
+
+/// To fetch each packet, in the order of the frames.
+pub fn fetches(heap: Global, shape: &Shape) -> anyhow::Result<Vec<Entry>>
+    ensures { IfOk result (λ entries. FetchesAll shape.now entries.items) }
+{
+    let mut entries = Vec::new(heap);
+    for number in 1..frames(shape) {
+        let (block, position) = place(shape, number)?;
+        let run = vec![in heap; 0; shape.packet()]?;
+        entries.push(Entry::new(Call::Fetch { block, position }, run))?;
+    }
+    Ok(entries)
+}
