@@ -6,4 +6,6 @@
 
 pub mod call;
 mod make;
+#[cfg(test)]
+mod tests;
 pub mod trial;
