@@ -171,14 +171,14 @@ module _ (P : Board) (l : Ledger) (m : Meaning) (L : Linked P l m) (sound : Soun
               | inl w ↦ inl (w.0, w.1.answer)
               | inr o ↦ elim o [ inl f ↦ inr (inl f.answer) | inr x ↦ inr (inr (x.0, x.1, x.2.answer)) ]
             ];
-            number = λ n e. elim outcome [
+            number = λ (n, e). elim outcome [
               | inl w ↦ let z : w.0 ≡ n = cc (w.1.answer, e) in subst (λ n. n + held P l s i ≡ s.positions) z w.1.number
               | inr o ↦ elim o [
                 | inl f ↦ absurd (none-some _ (sym (ap refusal_in e) ∙ f.answer))
                 | inr x ↦ absurd (none-some _ (sym (ap refusal_in e) ∙ x.2.answer))
               ]
             ];
-            values = λ sum word e. moved sum word (J.is_contradictory sum word (sym q ∙ e));
+            values = λ (sum, word, e). moved sum word (J.is_contradictory sum word (sym q ∙ e));
             long = R.same_length;
             kept = λ e. elim outcome [
               | inl w ↦ absurd (none-some _ (sym (ap refusal_in w.1.answer) ∙ e))

@@ -130,7 +130,7 @@ module _ (P Q : Board) (E : Alike P Q) (capacity : P.capacity ≡ Q.capacity) (l
       same_repaired R R' = elim R.other [
         | inl w ↦
             let w' = R'.whole.1 (one_moved s P.product Q.product (Agrees P l s i) (Agrees Q l s i) (moves P Q E l s i) (moves_back P Q E l s i) (R.whole.0 w)) in
-            let number : w.0 ≡ w'.0 = let a = R.number w.0 w.1 in let b = R'.number w'.0 w'.1 in omega arith in
+            let number : w.0 ≡ w'.0 = let a = R.number w in let b = R'.number w' in omega arith in
             (w.1 ∙ ap Whole number ∙ sym w'.1, zero_same after after' long (R.cleared (not_few answer w.0 w.1)) (R'.cleared (not_few answer' w'.0 w'.1)))
         | inr o ↦ elim o [
           | inl e ↦
@@ -139,7 +139,7 @@ module _ (P Q : Board) (E : Alike P Q) (capacity : P.capacity ≡ Q.capacity) (l
           | inr x ↦
               let x' = R'.contradictory.1 (none_moved s P.product Q.product (Agrees P l s i) (Agrees Q l s i) (moves P Q E l s i) (moves_back P Q E l s i) (R.contradictory.0 x)) in
               let (sum, word) = contradictory_only s P.product Q.product (Agrees P l s i) (s.positions - held P l s i) x.0 x.1 x'.0 x'.1
-              (E.sums s) (R.values x.0 x.1 x.2) (R'.values x'.0 x'.1 x'.2) in
+              (E.sums s) (R.values x) (R'.values x') in
               let e' : refusal_in answer' ≡ Some (8, x.0 ∷ x.1 ∷ []) = x'.2 ∙ ap (λ a. Some (8, a ∷ x'.1 ∷ [])) (sym sum) ∙ ap (λ b. Some (8, x.0 ∷ b ∷ [])) (sym word) in (
                 refused_only answer answer' (8, x.0 ∷ x.1 ∷ []) x.2 e',
                 zero_same after after' long (R.cleared (not_seven answer x.0 x.1 x.2)) (R'.cleared (not_seven answer' x'.0 x'.1 x'.2)),

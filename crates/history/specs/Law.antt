@@ -17,8 +17,8 @@ use Rattle.receiver.specs.Calls.{block_refusal, place_refusal, length_refusal}
 use Rattle.receiver.specs.Blocks.{One, Several, NoCodeword, Contradictory}
 use Rattle.history.specs.declared.call.Call.{Call}
 use Rattle.history.specs.declared.call.Call.TheVariants.{Take, Repair, Fetch, Count}
-use Rattle.history.specs.declared.call.Answer.TheVariants.{Shaped, Fresh, Known, Whole, Fetched, Held}
-use Rattle.history.specs.Turns.{Turn, asked, refusal_in, Answers, Refuses, Checked}
+use Rattle.history.specs.declared.call.Answer.TheVariants.{Shaped, Fresh, Known, Fetched, Held}
+use Rattle.history.specs.Turns.{Turn, asked, refusal_in, SaysWhole, SaysTooFew, SaysContradictory, Answers, Refuses, Checked}
 use Rattle.history.specs.Ledger.{Ledger, ledger, Accepted, arrived, has}
 use Rattle.history.specs.Boards.{Board, SameProduct}
 
@@ -40,7 +40,8 @@ module _ (P : Board) (l : Ledger) (s : Shape) (i : ℕ) where
 
   -- what is at position j: of a whole block the packet of the one codeword, of another the packet accepted
   abbrev pub IsThere : ℕ → List ℕ → Type 0
-  IsThere j ws = MatchBool (l.whole i) (Packets s 1 ws × (o : OneAgrees) × SamePacket (code_of s P.product) (o.it j) (packet_in s.words ws)) (Accepted l i j ws)
+  IsThere j ws =
+      MatchBool (l.whole i) (Packets s 1 ws × (o : OneAgrees) × SamePacket (code_of s P.product) (o.it j) (packet_in s.words ws)) (Accepted l i j ws)
 
   -- at how many positions something is
   abbrev pub held : ℕ
@@ -55,17 +56,17 @@ module _ (P : Board) (l : Ledger) (s : Shape) (i : ℕ) where
 
   -- a repair says whole, too few (7) or contradictory (8) exactly as one, several or no codeword agrees
   pub record Repaired (t : Turn) : Type 0 where
-    pub whole : ((n : ℕ) × (t.answer ≡ Whole n)) ↔ OneAgrees
-    pub few : (refusal_in t.answer ≡ Some (7, [])) ↔ Several (code_of s P.product) Agrees
-    pub contradictory : ((sum word : ℕ) × (refusal_in t.answer ≡ Some (8, sum ∷ word ∷ []))) ↔ NoCodeword (code_of s P.product) Agrees
-    pub other : ((n : ℕ) × (t.answer ≡ Whole n)) ⊎ (refusal_in t.answer ≡ Some (7, [])) ⊎ ((sum word : ℕ) × (refusal_in t.answer ≡ Some (8, sum ∷ word ∷ [])))
+    pub whole : SaysWhole t ↔ OneAgrees
+    pub few : SaysTooFew t ↔ Several (code_of s P.product) Agrees
+    pub contradictory : SaysContradictory t ↔ NoCodeword (code_of s P.product) Agrees
+    pub other : SaysWhole t ⊎ SaysTooFew t ⊎ SaysContradictory t
     -- the number is of the packets that were missing; the sum and the word are the first that contradict
-    pub number : (n : ℕ) → t.answer ≡ Whole n → n + held ≡ s.positions
-    pub values : (sum word : ℕ) → refusal_in t.answer ≡ Some (8, sum ∷ word ∷ []) → Contradictory (code_of s P.product) Agrees (s.positions - held) sum word
-    -- the work run has its length; after 7 it is as it was, and else zero
+    pub number : (says : SaysWhole t) → says.0 + held ≡ s.positions
+    pub values : (says : SaysContradictory t) → Contradictory (code_of s P.product) Agrees (s.positions - held) says.0 says.1
+    -- the work run keeps its length; after too few it is as it was, and else zero
     pub long : length t.after ≡ length t.before
-    pub kept : refusal_in t.answer ≡ Some (7, []) → t.after ≡ t.before
-    pub cleared : refusal_in t.answer ≢ Some (7, []) → ZeroRun t.after
+    pub kept : SaysTooFew t → t.after ≡ t.before
+    pub cleared : (SaysTooFew t → ⊥) → ZeroRun t.after
 
   -- a fetch is done where something is, and the run is that and nothing else; else refusal 23
   pub record FetchedAt (j : ℕ) (t : Turn) : Type 0 where
@@ -73,19 +74,21 @@ module _ (P : Board) (l : Ledger) (s : Shape) (i : ℕ) where
     pub only : (ws : List ℕ) → IsThere j ws → ws ≡ t.after
     pub empty : has l i j ≡ false → Refuses t (23, [])
 
--- refusal 9; of a shape 1 to 4 by its dimensions, and 20 by the store; of a packet 10, 5, 11
+-- a frame is refused with 9; with a shape 1 to 4 by its dimensions, then 20 by the store; with a packet 10, 5, 11
 abbrev pub TakeLaw : Board → Ledger → Turn → Sight → Type 0
 TakeLaw P l t (refused e) = Refuses t (9, [])
 TakeLaw P l t (shape d) =
     Checked t (or_else (shape_refusal P.bits d) (format_refusal P.capacity d.blocks d.positions (d.rows * d.words))) (Answers t Shaped)
-TakeLaw P l t (packet i j ws) = InShape P t l.shape (λ s. Checked t (or_else (length_refusal s ws) (place_refusal s i j)) (TakenAt P l s i j ws t))
+TakeLaw P l t (packet i j ws) =
+    InShape P t l.shape (λ s. Checked t (or_else (length_refusal s ws) (place_refusal s i j)) (TakenAt P l s i j ws t))
 
 -- a repair is refused with 10, 11, 5 before its work, a fetch with 10, 11, 5, a count with 10, 11
 abbrev pub CallLaw : Board → Ledger → Turn → Call → Type 0
 CallLaw P l t Take = TakeLaw P l t (parse t.before)
 CallLaw P l t (Repair i) =
     InShape P t l.shape (λ s. Checked t (or_else (block_refusal s i) (run_refusal s (parity_of s + 1) t.before 0)) (Repaired P l s i t))
-CallLaw P l t (Fetch i j) = InShape P t l.shape (λ s. Checked t (or_else (place_refusal s i j) (length_refusal s t.before)) (FetchedAt P l s i j t))
+CallLaw P l t (Fetch i j) =
+    InShape P t l.shape (λ s. Checked t (or_else (place_refusal s i j) (length_refusal s t.before)) (FetchedAt P l s i j t))
 CallLaw P l t (Count i) = InShape P t l.shape (λ s. Checked t (block_refusal s i) (Answers t (Held (held P l s i))))
 
 -- ONE BOARD, at every point of its transcript
@@ -110,9 +113,9 @@ pub record RepairsEnough (P : Board) (s : Shape) (i : ℕ) (c : Block) (past : L
 
 -- it says whole; and until the next shape every fetch of the block into a right run is done, and the run is the packet of c
 pub record Recovers (P : Board) (s : Shape) (i : ℕ) (c : Block) (t : Turn) (future : List Turn) : Type 0 where
-  pub whole : (n : ℕ) × (t.answer ≡ Whole n)
-  pub fetches : (between : List Turn) (f : Turn) (rest : List Turn) → future ≡ between ++ f ∷ rest → AllByRecursion (λ (u : Turn). u.answer ≢ Shaped) between
-      → (j : ℕ) → f.call ≡ Fetch i j → j < s.positions → Packets s 1 f.before
+  pub whole : SaysWhole t
+  pub fetches : (between : List Turn) (f : Turn) (rest : List Turn) → future ≡ between ++ f ∷ rest
+      → AllByRecursion (λ (u : Turn). u.answer ≢ Shaped) between → (j : ℕ) → f.call ≡ Fetch i j → j < s.positions → Packets s 1 f.before
       → (f.answer ≡ Fetched) × Packets s 1 f.after × SamePacket (code_of s P.product) (packet_in s.words f.after) (c j)
 
 pub record Together (P : Board) (ts : List Turn) (Q : Board) (us : List Turn) : Type 0 where
@@ -120,8 +123,9 @@ pub record Together (P : Board) (ts : List Turn) (Q : Board) (us : List Turn) : 
   pub recover : (past past' : List Turn) (t t' : Turn) (future future' : List Turn) → ts ≡ past ++ t ∷ future → us ≡ past' ++ t' ∷ future'
       → (s : Shape) (i : ℕ) (c : Block) → Codeword (code_of s P.product) c → RepairsEnough P s i c past t → RepairsEnough Q s i c past' t'
       → Recovers P s i c t future × Recovers Q s i c t' future'
-  -- as far as both were asked the same, in stores of one size, their transcripts are the same: every answer, every value, every word of a run
-  pub same : P.capacity ≡ Q.capacity → (past past' future future' : List Turn) → ts ≡ past ++ future → us ≡ past' ++ future' → asked past ≡ asked past' → past ≡ past'
+  -- with stores of one size, as far as both were asked the same their transcripts are the same: every answer, every value, every word of a run
+  pub same : P.capacity ≡ Q.capacity → (past past' future future' : List Turn) → ts ≡ past ++ future → us ≡ past' ++ future'
+      → asked past ≡ asked past' → past ≡ past'
 
 pub record TwoBoards (P : Board) (ts : List Turn) (Q : Board) (us : List Turn) : Type 0 where
   pub its : History P ts

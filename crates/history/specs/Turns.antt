@@ -3,7 +3,7 @@ use Rattle.std.specs.Prelude.{◌≡◌, ℕ, List, [], ◌∷◌, map, Some, No
 use Rattle.refusal.specs.Numbers.{said}
 use Rattle.history.specs.declared.call.Call.{Call}
 use Rattle.history.specs.declared.call.Answer.{Answer}
-use Rattle.history.specs.declared.call.Answer.TheVariants.{Refused}
+use Rattle.history.specs.declared.call.Answer.TheVariants.{Whole, Refused}
 use Rattle.history.specs.declared.call.Entry.{Entry}
 
 -- a call, with its run before and after it, and its answer
@@ -34,6 +34,16 @@ asked ts = map (λ (t : Turn). (t.call, t.before)) ts
 abbrev pub refusal_in : Answer → Option (ℕ × List ℕ)
 refusal_in (Refused e) = Some (said e)
 refusal_in answer = None
+
+-- the three answers to a repair that is not refused before its work: whole, too few, contradictory
+abbrev pub SaysWhole : Turn → Type 0
+SaysWhole t = (n : ℕ) × (t.answer ≡ Whole n)
+
+abbrev pub SaysTooFew : Turn → Type 0
+SaysTooFew t = refusal_in t.answer ≡ Some (7, [])
+
+abbrev pub SaysContradictory : Turn → Type 0
+SaysContradictory t = (sum word : ℕ) × (refusal_in t.answer ≡ Some (8, sum ∷ word ∷ []))
 
 -- an answer, or a refusal, and the run is as it was
 abbrev pub Answers : Turn → Answer → Type 0
