@@ -99,10 +99,12 @@ impl Board {
             (slice_get (drop self.now.heard self.now.entries.items) block)) }
     {
         match self.behind_frames().get(block) {
-            Some(Entry {
-                answer: Answer::Whole { restored },
-                ..
-            }) => Ok(*restored),
+            Some(
+                Entry {
+                    answer: Answer::Whole { restored },
+                    ..
+                },
+            ) => Ok(*restored),
             _ => Err(anyhow!("block {block} was not repaired")),
         }
     }
