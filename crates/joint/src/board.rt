@@ -4,7 +4,7 @@ ghost use Rattle.refusal.specs.Numbers.{refused_with};
 ghost use Rattle.joint.specs.Asked.{Asked};
 ghost use Rattle.joint.specs.Held.{Gave, GaveAll, GaveSent, WholeIn, first_refusal};
 
-use crate::head_end::{HeadEnd, frames};
+use crate::head_end::HeadEnd;
 use crate::link::Link;
 use crate::script::{fetches, repairs, takes};
 use anyhow::anyhow;
@@ -12,7 +12,7 @@ use history::call::{Answer, Call, Entry};
 use layout::shape::Shape;
 use refusal::Refusal;
 use sender::Transmission;
-use sender::numbering::place;
+use sender::numbering::{frames, place};
 use std::alloc::Global;
 
 /// Its link, and the calls of its receiver with their answers.

@@ -4,7 +4,6 @@ ghost use Rattle.std.specs.Int.{w32, from_be_bytes};
 ghost use Rattle.galois.specs.Field.{product};
 ghost use Rattle.layout.specs.Sizes.{packet_of};
 ghost use Rattle.frame.specs.Frames.{parse};
-ghost use Rattle.sender.specs.Numbering.{last};
 ghost use Rattle.sender.specs.Prepared.{Prepared};
 ghost use Rattle.sender.specs.Sent.{sent};
 ghost use Rattle.joint.specs.Image.{bytes_of, ShapeFor, WordsOf};
@@ -72,13 +71,6 @@ pub fn shape_for(block: Dimensions, length: usize) -> Result<Shape, Refusal>
         blocks: length.div_ceil(block_bytes(&one)),
         ..block
     })
-}
-
-// How many frames a transmission has: the shape, numbered 0, and then one for each packet.
-pub fn frames(shape: &Shape) -> usize
-    ensures { result ≡ last shape.now + 1 }
-{
-    shape.blocks() * shape.positions() + 1
 }
 
 // An image with the parity of all its blocks.

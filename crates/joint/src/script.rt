@@ -2,11 +2,11 @@
 ghost use Rattle.std.specs.Prelude.{IfOk};
 ghost use Rattle.joint.specs.Asked.{AtEach, AsksFrame, Repairs, FetchesAll};
 
-use crate::head_end::{HeadEnd, frames};
+use crate::head_end::HeadEnd;
 use crate::link::Link;
 use history::call::{Call, Entry};
 use layout::shape::Shape;
-use sender::numbering::place;
+use sender::numbering::{frames, place};
 use std::alloc::Global;
 
 /// To take each frame that the link does not lose, in order.
@@ -30,7 +30,7 @@ pub fn repairs(heap: Global, shape: &Shape) -> anyhow::Result<Vec<Entry>>
 {
     let mut entries = Vec::new(heap);
     for block in 0..shape.blocks() {
-        let work = vec![in heap; 0; (shape.parity() + 1) * shape.packet()]?;
+        let work = vec![in heap; 0; shape.work()]?;
         entries.push(Entry::new(Call::Repair { block }, work))?;
     }
     Ok(entries)

@@ -23,8 +23,8 @@ impl<F: Arithmetic, S: SlotStore> Receiver<F, S> {
         }
     }
 
-    // The shape; refused while none is set.
-    pub(crate) fn shape(&self) -> Result<Shape, Refusal>
+    /// The shape that is set, of which a board knows the sizes of its runs; refused with 10 while none is.
+    pub fn shape(&self) -> Result<Shape, Refusal>
         ensures { ShapeSaid self.now.shape result }
     {
         self.shape.ok_or(Refusal::NoShape)

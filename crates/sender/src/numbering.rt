@@ -1,10 +1,18 @@
 // Which packet a frame carries.
-ghost use Rattle.std.specs.Prelude.{◌≡◌, ◌<◌, IfOk};
+ghost use Rattle.std.specs.Prelude.{◌≡◌, ◌+◌, ◌<◌, ◌≤◌, IfOk};
 ghost use Rattle.refusal.specs.Numbers.{refused_with};
-ghost use Rattle.sender.specs.Numbering.{number_refusal, block_of, position_of, EachOnce};
+ghost use Rattle.sender.specs.Numbering.{number_refusal, block_of, position_of, last, EachOnce};
 
 use layout::shape::Shape;
 use refusal::Refusal;
+
+/// How many frames a transmission has: that of its shape, numbered 0, and one for each packet.
+pub fn frames(shape: &Shape) -> usize
+    ensures value { result ≡ last shape.now + 1 }
+    ensures bound { result ≤ 65473 }
+{
+    shape.blocks() * shape.positions() + 1
+}
 
 // The block and the position of a packet frame, from frame 1 on: neighbouring frames are of different blocks.
 pub fn place(shape: &Shape, frame: usize) -> Result<(usize, usize), Refusal>

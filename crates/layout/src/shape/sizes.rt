@@ -1,4 +1,4 @@
-ghost use Rattle.std.specs.Prelude.{◌≡◌, ◌≤◌};
+ghost use Rattle.std.specs.Prelude.{◌≡◌, ◌+◌, ◌*◌, ◌≤◌};
 ghost use Rattle.layout.specs.Made.{dimensions_of};
 ghost use Rattle.layout.specs.Sizes.{parity_of, packet_of};
 
@@ -30,5 +30,13 @@ impl Shape {
         ensures bounds { (1 ≤ result) × (result ≤ 160) }
     {
         self.rows * self.words
+    }
+
+    /// How many words the work run of a check or a repair has: room for every sum, and for one packet more.
+    pub fn work(&self) -> usize
+        ensures value { result ≡ (parity_of self.now + 1) * packet_of self.now }
+        ensures bound { result ≤ 5280 }
+    {
+        (self.parity() + 1) * self.packet()
     }
 }

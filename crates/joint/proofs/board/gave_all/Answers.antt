@@ -39,4 +39,4 @@ pub returns : goal.returns
 returns c =
     let t = c.args.sent in
     let end : c.loop-number.number ≡ c.frames-number-end.result = omega arith in
-    (λ yes. gave_every t.shape.now t.image.now t.parity.now c.args.fetches.now (rw (end, c.frames-number-end.ensures) at c.loop-number.invariant), λ all. search rules)
+    (λ yes. gave_every t.shape.now t.image.now t.parity.now c.args.fetches.now (rw (end, c.frames-number-end.ensures.value) at c.loop-number.invariant), λ all. search rules)
