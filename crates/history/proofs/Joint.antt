@@ -13,16 +13,16 @@ use Rattle.code.proofs.Fitting.{proper}
 use Rattle.history.specs.declared.call.Call.TheVariants.{Repair, Fetch}
 use Rattle.history.specs.declared.call.Answer.TheVariants.{Whole}
 use Rattle.history.specs.Turns.{Turn, Checked}
-use Rattle.history.specs.Ledger.{Ledger, opened, after_call, continued, ledger, arrived}
+use Rattle.history.specs.Ledger.{Ledger, opened, after_call, continued, ledger, any_accepted}
 use Rattle.history.specs.Boards.{Board}
 use Rattle.history.specs.Law.{InShape, Agrees, Repaired, FetchedAt, CallLaw, History, RepairsEnough, Recovers}
-use Rattle.history.proofs.Ledgers.{Grown, grown, grown_completing, arrived_accepted, has_whole, continued_append, continued_after}
+use Rattle.history.proofs.Ledgers.{Grown, grown, grown_completing, any_is_accepted, has_whole, continued_append, continued_after}
 use Rattle.history.proofs.Shapes.{same_shape}
 
--- two blocks that agree with a ledger have the same packets where one has arrived
-agree_arrived : (P : Board) (l : Ledger) (s : Shape) (i : ℕ) (x c : Block) → Agrees P l s i x → Agrees P l s i c → (j : ℕ) → arrived l i j ≡ true
+-- two blocks that agree with a ledger have the same packets where one has any_accepted
+agree_accepted : (P : Board) (l : Ledger) (s : Shape) (i : ℕ) (x c : Block) → Agrees P l s i x → Agrees P l s i c → (j : ℕ) → any_accepted l i j ≡ true
     → SamePacket (code_of s P.product) (x j) (c j)
-agree_arrived P l s i x c a a' j t r p lr lp = let h = arrived_accepted l i j t in a j h.0 h.1 r p lr lp ∙ sym (a' j h.0 h.1 r p lr lp)
+agree_accepted P l s i x c a a' j t r p lr lp = let h = any_is_accepted l i j t in a j h.0 h.1 r p lr lp ∙ sym (a' j h.0 h.1 r p lr lp)
 
 -- The law of a call in a shape that is set, after checks that pass
 
@@ -49,12 +49,12 @@ module _ (P : Board) (inv : ℕ → ℕ) (laws : FieldLaws P.bits P.product inv)
       passed t _ _ (grind (arith, block, position, right)) it
 
   -- enough packets of a codeword: no other agrees
-  enough_only : (l : Ledger) (s : Shape) (i : ℕ) (c : Block) → s.rows ≡ P.bits → Agrees P l s i c → s.sources ≤ count (arrived l i) s.positions → Codeword (code_of s P.product) c
+  enough_only : (l : Ledger) (s : Shape) (i : ℕ) (c : Block) → s.rows ≡ P.bits → Agrees P l s i c → s.sources ≤ count (any_accepted l i) s.positions → Codeword (code_of s P.product) c
       → (x : Block) → Codeword (code_of s P.product) x → Agrees P l s i x → SameBlock (code_of s P.product) x c
   enough_only l s i c rows agrees enough w x v a =
       let of_rows : FieldLaws s.rows P.product inv = subst (λ m. FieldLaws m P.product inv) (sym rows) laws in
-      let many : s.positions - parity_of s ≤ count (arrived l i) s.positions = let k = s.counts in omega arith in
-      at_most_one (code_of s P.product) inv (proper s P.product inv of_rows) (arrived l i) many x c v w (λ j lt t. agree_arrived P l s i x c a agrees j t)
+      let many : s.positions - parity_of s ≤ count (any_accepted l i) s.positions = let k = s.counts in omega arith in
+      at_most_one (code_of s P.product) inv (proper s P.product inv of_rows) (any_accepted l i) many x c v w (λ j lt t. agree_accepted P l s i x c a agrees j t)
 
   pub recovers : (ts : List Turn) → History P ts → (past : List Turn) (t : Turn) (future : List Turn) → ts ≡ past ++ t ∷ future
       → (s : Shape) (i : ℕ) (c : Block) → Codeword (code_of s P.product) c → RepairsEnough P s i c past t → Recovers P s i c t future

@@ -4,6 +4,7 @@ use Rattle.std.specs.List.{Contains}
 use Rattle.std.proofs.lemmas.Bool.{cases_eq, eq-eqb, ne_eqb, or_left, false≢true, true≢false}
 use Rattle.std.proofs.lemmas.Option.{none-some, same_Some}
 use Rattle.refusal.specs.declared.Refusal.{Refusal}
+use Rattle.refusal.specs.Numbers.{refused_with}
 use Rattle.algebra.specs.Code.{Block, Codeword, SameBlock}
 use Rattle.layout.specs.declared.shape.Dimensions.{Dimensions}
 use Rattle.layout.specs.declared.shape.Shape.{Shape}
@@ -15,15 +16,15 @@ use Rattle.receiver.specs.declared.Taken.TheVariants.{Shaped as shape_set, Fresh
 use Rattle.receiver.specs.declared.Whole.{Whole as Completed}
 use Rattle.receiver.specs.Meaning.{Meaning}
 use Rattle.receiver.specs.Sound.{Sound}
-use Rattle.receiver.specs.Calls.{Starts, Keeps, Knows, Took}
+use Rattle.receiver.specs.Calls.{Starts, Keeps, Knows, take_refusal, Took}
 use Rattle.receiver.specs.Repairs.{repair_refusal, Completes, Restored, AfterRepair}
 use Rattle.history.specs.declared.call.Call.{Call}
 use Rattle.history.specs.declared.call.Call.TheVariants.{Take, Repair, Fetch, Count}
 use Rattle.history.specs.Turns.{Turn}
-use Rattle.history.specs.Ledger.{Arrival, Ledger, opened, arrival, accepting, completing, after_frame, after_call, continued}
+use Rattle.history.specs.Ledger.{Acceptance, Ledger, opened, acceptance, accepting, completing, after_frame, after_call, continued}
 use Rattle.history.specs.Boards.{Board}
 use Rattle.history.specs.Law.{Agrees}
-use Rattle.history.specs.Steps.{taken, repaired, Makes, Run}
+use Rattle.history.specs.Steps.{taken, repaired, Makes, AllSteps}
 use Rattle.history.proofs.Ledgers.{contains_cases, contains_here, contains_more}
 use Rattle.history.proofs.Linked.{present, Full, Kept, Linked, to_slots}
 
@@ -37,6 +38,10 @@ same_place a q i j = elim (cases_eq a i) [
 -- a repair that passes its checks is of a block of the shape
 repair_inside : (m : Meaning) (s : Shape) (i : ℕ) (work : List ℕ) → m.shape ≡ Some s → repair_refusal m i work ≡ None → i < s.blocks
 repair_inside m s i work is pass = grind (arith, is, pass)
+
+-- a packet is taken only while a shape is set
+shape_there : (bits : ℕ) (m : Meaning) (i j : ℕ) (ws : List ℕ) → None ≡ take_refusal bits m (packet i j ws) → m.shape ≡ None → ⊥
+shape_there bits m i j ws q e = none-some (10, []) (q ∙ ap (λ o. take_refusal bits (record m { shape = o }) (packet i j ws)) e)
 
 module _ (P : Board) where
   -- a full block stays full if its slots do, and the codewords that agree
@@ -61,7 +66,7 @@ module _ (P : Board) where
     begins d after S = record {
       capacity_is = S.capacity_same ∙ L.capacity_is;
       shape_is = ap Some (sym S.dimensions) ∙ sym (ap present S.shape_is);
-      blank = λ _ i. refl;
+      blank = λ _. ((λ i. refl), refl);
       kept = λ s e. record {
         held = λ i j ws h. absurd (omega (arith, h.1));
         found = λ i j ws _ f. absurd (none-some ws (sym (S.emptied.empty i j) ∙ f));
@@ -69,20 +74,20 @@ module _ (P : Board) where
       };
     }
 
-    module _ (sound : Sound P.bits m.shape m.grid) (i j : ℕ) (ws : List ℕ) where
+    module _ (sound : Sound P.bits m.shape m.grid) (i j : ℕ) (ws : List ℕ) (some : m.shape ≡ None → ⊥) where
       abbrev next : Ledger
-      next = accepting l (arrival i j ws)
+      next = accepting l (acceptance i j ws)
 
       -- with one packet more accepted fewer blocks agree
       fewer : (s : Shape) (a : ℕ) (c : Block) → Agrees P next s a c → Agrees P l s a c
-      fewer s a c u q vs h = u q vs (contains_more (arrival i j ws) (arrival a q vs) l.accepted h)
+      fewer s a c u q vs h = u q vs (contains_more (acceptance i j ws) (acceptance a q vs) l.accepted h)
 
       -- a packet is put
       keeps : (after : Meaning) → Keeps m i j ws after → Linked P next after
       keeps after D = record {
         capacity_is = D.capacity_same ∙ L.capacity_is;
         shape_is = L.shape_is ∙ ap present (sym D.shape_same);
-        blank = λ e. L.blank (sym D.shape_same ∙ e);
+        blank = λ e. absurd (some (sym D.shape_same ∙ e));
         kept = λ s e.
             let is = sym D.shape_same ∙ e in
             let K = L.kept s is in
@@ -91,9 +96,9 @@ module _ (P : Board) where
             let column : j < s.positions = subst (λ n. j < n) F.columns D.column_inside in
             let other : (a q : ℕ) → (a ≡ i → q ≡ j → ⊥) → after.grid.slots a q ≡ m.grid.slots a q = λ a q n. D.filled.others a q n in
             record {
-              held = λ a q vs h. elim (contains_cases (arrival i j ws) (arrival a q vs) l.accepted h) [
+              held = λ a q vs h. elim (contains_cases (acceptance i j ws) (acceptance a q vs) l.accepted h) [
                 | inl p ↦
-                    let Q : Arrival → Type 0 = λ (x : Arrival). (after.grid.slots x.block x.position ≡ Some x.payload) × (x.block < s.blocks) × (x.position < s.positions) in
+                    let Q : Acceptance → Type 0 = λ (x : Acceptance). (after.grid.slots x.block x.position ≡ Some x.payload) × (x.block < s.blocks) × (x.position < s.positions) in
                     subst Q p (D.filled.here, row, column)
                 | inr r ↦
                     let k = K.held a q vs r in
@@ -103,9 +108,9 @@ module _ (P : Board) where
               found = λ a q vs w f. elim (same_place a q i j) [
                 | inl t ↦
                     let here : Some ws ≡ Some vs = sym D.filled.here ∙ sym (ap (λ u. after.grid.slots u q) t.0 ∙ ap (after.grid.slots i) t.1) ∙ f in
-                    let is : arrival i j ws ≡ arrival a q vs = λ z. arrival (sym t.0 z) (sym t.1 z) (same_Some ws vs here z) in
-                    subst (λ x. Contains (arrival i j ws ∷ l.accepted) x) is (contains_here (arrival i j ws) l.accepted)
-                | inr n ↦ contains_more (arrival i j ws) (arrival a q vs) l.accepted (K.found a q vs w (sym (other a q n) ∙ f))
+                    let is : acceptance i j ws ≡ acceptance a q vs = λ z. acceptance (sym t.0 z) (sym t.1 z) (same_Some ws vs here z) in
+                    subst (λ x. Contains (acceptance i j ws ∷ l.accepted) x) is (contains_here (acceptance i j ws) l.accepted)
+                | inr n ↦ contains_more (acceptance i j ws) (acceptance a q vs) l.accepted (K.found a q vs w (sym (other a q n) ∙ f))
               ];
               full = λ a w.
                   let G = K.full a w in
@@ -119,36 +124,36 @@ module _ (P : Board) where
       knows after D = record {
         capacity_is = L.capacity_is;
         shape_is = L.shape_is;
-        blank = L.blank;
+        blank = λ e. absurd (some e);
         kept = λ s e.
             let K = L.kept s e in
             let F = (sound s e).1 in
             let row : i < s.blocks = subst (λ n. i < n) F.rows D.row_inside in
             let column : j < s.positions = subst (λ n. j < n) F.columns D.column_inside in
             record {
-              held = λ a q vs h. elim (contains_cases (arrival i j ws) (arrival a q vs) l.accepted h) [
+              held = λ a q vs h. elim (contains_cases (acceptance i j ws) (acceptance a q vs) l.accepted h) [
                 | inl p ↦
-                    let Q : Arrival → Type 0 = λ (x : Arrival). (m.grid.slots x.block x.position ≡ Some x.payload) × (x.block < s.blocks) × (x.position < s.positions) in
+                    let Q : Acceptance → Type 0 = λ (x : Acceptance). (m.grid.slots x.block x.position ≡ Some x.payload) × (x.block < s.blocks) × (x.position < s.positions) in
                     subst Q p (D.held, row, column)
                 | inr r ↦ K.held a q vs r
               ];
-              found = λ a q vs w f. contains_more (arrival i j ws) (arrival a q vs) l.accepted (K.found a q vs w f);
+              found = λ a q vs w f. contains_more (acceptance i j ws) (acceptance a q vs) l.accepted (K.found a q vs w f);
               full = λ a w. full_moved s l next m.grid m.grid a (λ q. refl) (fewer s a) (K.full a w);
             };
       }
 
     -- a frame
-    takes : Sound P.bits m.shape m.grid → (f : Sight) (r : Result Taken Refusal) (after : Meaning) → Took m f r after → Linked P (after_frame l f (taken r)) after
-    takes sound (shape d) (Ok shape_set) after T = begins d after T
-    takes sound (shape d) (Ok packet_put) after T = absurd T
-    takes sound (shape d) (Ok packet_held) after T = absurd T
-    takes sound (shape d) (Err e) after T = stays after T
-    takes sound (packet i j ws) (Ok shape_set) after T = absurd T
-    takes sound (packet i j ws) (Ok packet_put) after T = keeps sound i j ws after T
-    takes sound (packet i j ws) (Ok packet_held) after T = subst (Linked P (accepting l (arrival i j ws))) (sym T.same) (knows sound i j ws after T)
-    takes sound (packet i j ws) (Err e) after T = stays after T
-    takes sound (refused e) (Ok t) after T = absurd T
-    takes sound (refused e) (Err f) after T = stays after T
+    takes : Sound P.bits m.shape m.grid → (f : Sight) (r : Result Taken Refusal) (after : Meaning) → refused_with r ≡ take_refusal P.bits m f → Took m f r after → Linked P (after_frame l f (taken r)) after
+    takes sound (shape d) (Ok shape_set) after q T = begins d after T
+    takes sound (shape d) (Ok packet_put) after q T = absurd T
+    takes sound (shape d) (Ok packet_held) after q T = absurd T
+    takes sound (shape d) (Err e) after q T = stays after T
+    takes sound (packet i j ws) (Ok shape_set) after q T = absurd T
+    takes sound (packet i j ws) (Ok packet_put) after q T = keeps sound i j ws (shape_there P.bits m i j ws q) after T
+    takes sound (packet i j ws) (Ok packet_held) after q T = subst (Linked P (accepting l (acceptance i j ws))) (sym T.same) (knows sound i j ws (shape_there P.bits m i j ws q) after T)
+    takes sound (packet i j ws) (Err e) after q T = stays after T
+    takes sound (refused e) (Ok t) after q T = absurd T
+    takes sound (refused e) (Err f) after q T = stays after T
 
     -- another block is whole after a repair of block i if it was before
     still_whole : (i a : ℕ) → (a ≡ i → ⊥) → (completing l i).whole a ≡ l.whole a
@@ -200,7 +205,7 @@ module _ (P : Board) where
     makes_linked : (t : Turn) (call : Call) (after : Meaning) → Sound P.bits m.shape m.grid → Makes P.bits P.product m t call after
         → Linked P (after_call l call t.before t.answer) after
     makes_linked t Take after sound T =
-        subst (λ a. Linked P (after_frame l (parse t.before) a) after) (sym T.answer_is) (takes sound (parse t.before) T.said after T.took)
+        subst (λ a. Linked P (after_frame l (parse t.before) a) after) (sym T.answer_is) (takes sound (parse t.before) T.said after T.refusal T.took)
     makes_linked t (Repair i) after sound R =
         let Q : Result Completed Refusal → Type 0 =
         λ r. AfterRepair P.product m i t.before t.after r after → Linked P (after_call l (Repair i) t.before (repaired r)) after in
@@ -213,8 +218,8 @@ module _ (P : Board) where
     makes_linked t (Count i) after sound C = stays after C.same
 
   -- a run up to a point, and from there on
-  pub run_splits : (l : Ledger) (m : Meaning) (past future : List Turn) (end : Meaning) → Linked P l m → Run P.bits P.product m (past ++ future) end
-      → (n : Meaning) × Linked P (continued l past) n × Run P.bits P.product n future end
+  pub run_splits : (l : Ledger) (m : Meaning) (past future : List Turn) (end : Meaning) → Linked P l m → AllSteps P.bits P.product m (past ++ future) end
+      → (n : Meaning) × Linked P (continued l past) n × AllSteps P.bits P.product n future end
   unfolding continued
   run_splits l m [] future end L R = (m, L, R)
   run_splits l m (t ∷ past) future end L R =

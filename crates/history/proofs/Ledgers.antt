@@ -9,7 +9,7 @@ use Rattle.history.specs.declared.call.Call.TheVariants.{Take, Repair}
 use Rattle.history.specs.declared.call.Answer.{Answer}
 use Rattle.history.specs.declared.call.Answer.TheVariants.{Shaped, Fresh, Known, Whole}
 use Rattle.history.specs.Turns.{Turn}
-use Rattle.history.specs.Ledger.{Arrival, Ledger, arrival, completing, after_frame, after_call, continued, Accepted, arrived, has}
+use Rattle.history.specs.Ledger.{Acceptance, Ledger, acceptance, completing, after_frame, after_call, continued, Accepted, any_accepted, has}
 
 -- Elements of a list
 
@@ -26,41 +26,41 @@ contains_cases {X} y x xs h = at h.0 h.1 h.2
     at zero lt is = inl is
     at (suc k) lt is = inr (k, omega arith, is)
 
--- What has arrived
+-- What has any_accepted
 
--- where a packet was accepted, one has arrived
-pub accepted_arrived : (l : Ledger) (i j : ℕ) (ws : List ℕ) → Accepted l i j ws → arrived l i j ≡ true
-accepted_arrived l i j ws h = on l.accepted h
+-- where a packet was accepted, one has any_accepted
+pub accepted_any : (l : Ledger) (i j : ℕ) (ws : List ℕ) → Accepted l i j ws → any_accepted l i j ≡ true
+accepted_any l i j ws h = on l.accepted h
   where
-    on : (rest : List Arrival) → Contains rest (arrival i j ws) → list_any (λ (a : Arrival). a.block == i && a.position == j) rest ≡ true
+    on : (rest : List Acceptance) → Contains rest (acceptance i j ws) → list_any (λ (a : Acceptance). a.block == i && a.position == j) rest ≡ true
     on [] h = absurd (omega (arith, h.1))
-    on (a ∷ rest) h = elim (contains_cases a (arrival i j ws) rest h) [
-      | inl e ↦ or_left _ _ (and_from _ _ (eq-eqb _ _ (ap (λ (x : Arrival). x.block) e)) (eq-eqb _ _ (ap (λ (x : Arrival). x.position) e)))
+    on (a ∷ rest) h = elim (contains_cases a (acceptance i j ws) rest h) [
+      | inl e ↦ or_left _ _ (and_from _ _ (eq-eqb _ _ (ap (λ (x : Acceptance). x.block) e)) (eq-eqb _ _ (ap (λ (x : Acceptance). x.position) e)))
       | inr r ↦ or_right _ _ (on rest r)
     ]
 
--- where one has arrived, a packet was accepted
-pub arrived_accepted : (l : Ledger) (i j : ℕ) → arrived l i j ≡ true → (ws : List ℕ) × Accepted l i j ws
-arrived_accepted l i j e = on l.accepted e
+-- where one has any_accepted, a packet was accepted
+pub any_is_accepted : (l : Ledger) (i j : ℕ) → any_accepted l i j ≡ true → (ws : List ℕ) × Accepted l i j ws
+any_is_accepted l i j e = on l.accepted e
   where
-    on : (rest : List Arrival) → list_any (λ (a : Arrival). a.block == i && a.position == j) rest ≡ true → (ws : List ℕ) × Contains rest (arrival i j ws)
+    on : (rest : List Acceptance) → list_any (λ (a : Acceptance). a.block == i && a.position == j) rest ≡ true → (ws : List ℕ) × Contains rest (acceptance i j ws)
     on [] e = absurd (cc)
     on (a ∷ rest) e = elim (or_cases _ _ e) [
       | inl t ↦
           let u = and_parts _ _ t in
           let block = eqb-true _ _ u.0 in
           let position = eqb-true _ _ u.1 in
-          let is : a ≡ arrival i j a.payload = λ z. arrival (block z) (position z) a.payload in
+          let is : a ≡ acceptance i j a.payload = λ z. acceptance (block z) (position z) a.payload in
           (a.payload, subst (Contains (a ∷ rest)) is (contains_here a rest))
-      | inr t ↦ let h = on rest t in (h.0, contains_more a (arrival i j h.0) rest h.1)
+      | inr t ↦ let h = on rest t in (h.0, contains_more a (acceptance i j h.0) rest h.1)
     ]
 
--- a block that is whole has a packet everywhere, and another where one has arrived
+-- a block that is whole has a packet everywhere, and another where one has any_accepted
 pub has_whole : (l : Ledger) (i j : ℕ) → l.whole i ≡ true → has l i j ≡ true
-has_whole l i j w = ap (λ b. b || arrived l i j) w
+has_whole l i j w = ap (λ b. b || any_accepted l i j) w
 
-pub has_arrived : (l : Ledger) (i j : ℕ) → l.whole i ≡ false → has l i j ≡ arrived l i j
-has_arrived l i j w = ap (λ b. b || arrived l i j) w
+pub has_accepted : (l : Ledger) (i j : ℕ) → l.whole i ≡ false → has l i j ≡ any_accepted l i j
+has_accepted l i j w = ap (λ b. b || any_accepted l i j) w
 
 -- all positions are marked
 pub count_all : (marked : ℕ → Bool) (n : ℕ) → ((q : ℕ) → q < n → marked q ≡ true) → count marked n ≡ n
@@ -84,8 +84,8 @@ grown_completing l i = record { shape_same = refl; more = λ a j ws h. h; still 
 
 grown_frame : (l : Ledger) (f : Sight) (answer : Answer) → answer ≢ Shaped → Grown l (after_frame l f answer)
 grown_frame l (shape d) Shaped n = absurd (n refl)
-grown_frame l (packet i j ws) Fresh n = record { shape_same = refl; more = λ a q vs h. contains_more (arrival i j ws) (arrival a q vs) l.accepted h; still = λ a e. e }
-grown_frame l (packet i j ws) Known n = record { shape_same = refl; more = λ a q vs h. contains_more (arrival i j ws) (arrival a q vs) l.accepted h; still = λ a e. e }
+grown_frame l (packet i j ws) Fresh n = record { shape_same = refl; more = λ a q vs h. contains_more (acceptance i j ws) (acceptance a q vs) l.accepted h; still = λ a e. e }
+grown_frame l (packet i j ws) Known n = record { shape_same = refl; more = λ a q vs h. contains_more (acceptance i j ws) (acceptance a q vs) l.accepted h; still = λ a e. e }
 grown_frame l f answer n = grown_none l
 
 grown_call : (l : Ledger) (call : Call) (run : List ℕ) (answer : Answer) → answer ≢ Shaped → Grown l (after_call l call run answer)

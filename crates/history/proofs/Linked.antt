@@ -15,10 +15,10 @@ use Rattle.receiver.specs.Meaning.{Meaning}
 use Rattle.receiver.specs.Sound.{Fitted}
 use Rattle.receiver.specs.Calls.{held_in}
 use Rattle.receiver.specs.Blocks.{block_of, One, Agrees as GridAgrees}
-use Rattle.history.specs.Ledger.{Ledger, opened, Accepted, arrived, has}
+use Rattle.history.specs.Ledger.{Ledger, opened, Accepted, any_accepted, has}
 use Rattle.history.specs.Boards.{Board}
 use Rattle.history.specs.Law.{Agrees, held, IsThere}
-use Rattle.history.proofs.Ledgers.{accepted_arrived, arrived_accepted, has_whole, has_arrived}
+use Rattle.history.proofs.Ledgers.{accepted_any, any_is_accepted, has_whole, has_accepted}
 use Rattle.history.proofs.Shapes.{same_packets}
 use Rattle.history.proofs.Agreeing.{Moves}
 
@@ -42,12 +42,12 @@ module _ (P : Board) where
   pub record Linked (l : Ledger) (m : Meaning) : Type 0 where
     pub capacity_is : m.capacity ≡ P.capacity
     pub shape_is : l.shape ≡ present m.shape
-    pub blank : m.shape ≡ None → (i : ℕ) → l.whole i ≡ false
+    pub blank : m.shape ≡ None → ((i : ℕ) → l.whole i ≡ false) × (l.accepted ≡ [])
     pub kept : (s : Shape) → m.shape ≡ Some s → Kept s l m.grid
 
   -- an unused receiver, whatever its store holds
   pub linked_blank : (m : Meaning) → m.shape ≡ None → m.capacity ≡ P.capacity → Linked (opened None) m
-  linked_blank m e capacity = record { capacity_is = capacity; shape_is = sym (ap present e); blank = λ _ i. refl; kept = λ s f. absurd (none-some s (sym e ∙ f)) }
+  linked_blank m e capacity = record { capacity_is = capacity; shape_is = sym (ap present e); blank = λ _. ((λ i. refl), refl); kept = λ s f. absurd (none-some s (sym e ∙ f)) }
 
   -- what holds with no shape, and of a shape that is set, holds of the ledger
   pub by_shape : (l : Ledger) (m : Meaning) (Q : Option Dimensions → Type 0) → Linked l m → (m.shape ≡ None → Q None)
@@ -107,14 +107,14 @@ module _ (P : Board) (s : Shape) (l : Ledger) (g : Grid) (K : Kept P s l g) (i :
   pub has_slot : (j : ℕ) → j < s.positions → held_in g i j ≡ has l i j
   has_slot j lt = elim (cases_Bool (l.whole i)) [
     | inl t ↦ ap is_some ((K.full i t).filled j lt).1 ∙ sym (has_whole l i j t)
-    | inr f ↦ by_slot f ∙ sym (has_arrived l i j f)
+    | inr f ↦ by_slot f ∙ sym (has_accepted l i j f)
   ]
     where
-      by_slot : l.whole i ≡ false → held_in g i j ≡ arrived l i j
+      by_slot : l.whole i ≡ false → held_in g i j ≡ any_accepted l i j
       by_slot f = elim (cases_Bool (held_in g i j)) [
-        | inl t ↦ let o = some_from (g.slots i j) t in t ∙ sym (accepted_arrived l i j o.0 (K.found i j o.0 f o.1))
-        | inr n ↦ elim (cases_Bool (arrived l i j)) [
-          | inl t ↦ let a = arrived_accepted l i j t in absurd (true≢false (sym (ap is_some (K.held i j a.0 a.1).0) ∙ n))
+        | inl t ↦ let o = some_from (g.slots i j) t in t ∙ sym (accepted_any l i j o.0 (K.found i j o.0 f o.1))
+        | inr n ↦ elim (cases_Bool (any_accepted l i j)) [
+          | inl t ↦ let a = any_is_accepted l i j t in absurd (true≢false (sym (ap is_some (K.held i j a.0 a.1).0) ∙ n))
           | inr x ↦ n ∙ sym x
         ]
       ]

@@ -5,10 +5,10 @@ use Rattle.receiver.specs.Meaning.{Meaning}
 use Rattle.history.specs.declared.call.Call.{Call}
 use Rattle.history.specs.declared.call.Entry.{Entry}
 use Rattle.history.specs.Turns.{Turn, turn, transcript, calls}
-use Rattle.history.specs.Steps.{Step, Run}
+use Rattle.history.specs.Steps.{Step, AllSteps}
 
-pub run_more : (bits : ℕ) (prod : ℕ → ℕ → ℕ) (m : Meaning) (ts : List Turn) (mid : Meaning) (t : Turn) (after : Meaning) → Run bits prod m ts mid → Step bits prod mid t after
-    → Run bits prod m (ts ++ t ∷ []) after
+pub run_more : (bits : ℕ) (prod : ℕ → ℕ → ℕ) (m : Meaning) (ts : List Turn) (mid : Meaning) (t : Turn) (after : Meaning) → AllSteps bits prod m ts mid → Step bits prod mid t after
+    → AllSteps bits prod m (ts ++ t ∷ []) after
 run_more bits prod m [] mid t after R S = (after, subst (λ n. Step bits prod n t after) R S, refl)
 run_more bits prod m (u ∷ ts) mid t after R S = (R.0, R.1, run_more bits prod R.0 ts mid t after R.2 S)
 

@@ -1,10 +1,10 @@
--- What a board's answers depend on, besides what it is asked.
+-- What a board's answers depend on, besides what it is asked. A board is an unused receiver over an arithmetic and a store.
 use Rattle.std.specs.Prelude.{◌≡◌, ℕ, ◌^◌, ◌<◌}
 use Rattle.galois.specs.Field.{product}
 use Rattle.field.specs.declared.Arithmetic
 use Rattle.store.specs.declared.SlotStore
 
--- the width and the product of its arithmetic, and how many words its store has
+-- the width and the product of its arithmetic, and the capacity of its store, in words
 pub record Board : Type 0 where
   pub bits : ℕ
   pub product : ℕ → ℕ → ℕ

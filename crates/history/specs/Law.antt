@@ -1,6 +1,7 @@
 -- What any string of calls shows. Every call is answered as the ledger of the calls before it says; a block that is called whole is the one
--- codeword that agrees with what was accepted for it; and two boards of equal product cannot part, whatever else they are made of.
--- P and Q are boards, l is a ledger, s a shape, i a block, j a position, t a turn. The numbers of refusals are those of docs/RULES.md.
+-- codeword that agrees with what was accepted for it. Two boards with equal products recover the same codeword from enough of its packets; if the
+-- capacities of their stores are equal too, they answer the same calls alike, word by word.
+-- P and Q are boards, l is a ledger, s a shape, i a block, j a position, t a turn, c a codeword. Refusals have the numbers of docs/RULES.md.
 use Rattle.std.specs.Prelude.{◌≡◌, ℕ, ◌+◌, ◌-◌, ◌*◌, ◌<◌, ◌≤◌, true, false, ◌⊎◌, ◌↔◌, List, [], ◌∷◌, ◌++◌, length, Some, None, Option, ◌≢◌, MatchBool}
 use Rattle.std.specs.List.{AllByRecursion}
 use Rattle.refusal.specs.Numbers.{or_else}
@@ -19,12 +20,12 @@ use Rattle.history.specs.declared.call.Call.{Call}
 use Rattle.history.specs.declared.call.Call.TheVariants.{Take, Repair, Fetch, Count}
 use Rattle.history.specs.declared.call.Answer.TheVariants.{Shaped, Fresh, Known, Fetched, Held}
 use Rattle.history.specs.Turns.{Turn, asked, refusal_in, SaysWhole, SaysTooFew, SaysContradictory, Answers, Refuses, Checked}
-use Rattle.history.specs.Ledger.{Ledger, ledger, Accepted, arrived, has}
+use Rattle.history.specs.Ledger.{Ledger, ledger, Accepted, any_accepted, has}
 use Rattle.history.specs.Boards.{Board, SameProduct}
 
 -- EACH CALL
 
--- refusal 10 while no shape is set, and else a law of the shape, which is one for the arithmetic
+-- refusal 10 while no shape is set; else the shape has the arithmetic's width, and a law holds of it
 abbrev pub InShape : Board → Turn → Option Dimensions → (Shape → Type 0) → Type 0
 InShape P t None Law = Refuses t (10, [])
 InShape P t (Some d) Law = (s : Shape) × (dimensions_of s ≡ d) × (s.rows ≡ P.bits) × Law s
@@ -96,17 +97,21 @@ CallLaw P l t (Count i) = InShape P t l.shape (λ s. Checked t (block_refusal s 
 pub record History (P : Board) (ts : List Turn) : Type 0 where
   -- every call is answered by the ledger of the calls before it
   pub answers : (past : List Turn) (t : Turn) (future : List Turn) → ts ≡ past ++ t ∷ future → CallLaw P (ledger past) t t.call
+  -- what was accepted is a packet of the present shape, and nothing else was accepted at its place
+  pub accepted : (past future : List Turn) → ts ≡ past ++ future → (i j : ℕ) (ws : List ℕ) → Accepted (ledger past) i j ws
+      → (s : Shape) × ((ledger past).shape ≡ Some (dimensions_of s)) × (i < s.blocks) × (j < s.positions) × Packets s 1 ws
+      × ((vs : List ℕ) → Accepted (ledger past) i j vs → vs ≡ ws)
   -- for a block that is whole exactly one codeword agrees with what was accepted
   pub whole : (past future : List Turn) → ts ≡ past ++ future → (i : ℕ) → (ledger past).whole i ≡ true
       → (s : Shape) × ((ledger past).shape ≡ Some (dimensions_of s)) × (i < s.blocks) × OneAgrees P (ledger past) s i
 
 -- TWO BOARDS
 
--- after packets of the block c alone were accepted for block i, at k positions or more, turn t repairs the block with a right run
+-- after only packets of the codeword c were accepted for block i, at k positions or more, turn t repairs it with a right run
 pub record RepairsEnough (P : Board) (s : Shape) (i : ℕ) (c : Block) (past : List Turn) (t : Turn) : Type 0 where
   pub shape_is : (ledger past).shape ≡ Some (dimensions_of s)
   pub agrees : Agrees P (ledger past) s i c
-  pub enough : s.sources ≤ count (arrived (ledger past) i) s.positions
+  pub enough : s.sources ≤ count (any_accepted (ledger past) i) s.positions
   pub call : t.call ≡ Repair i
   pub inside : i < s.blocks
   pub right : Packets s (parity_of s + 1) t.before
@@ -119,15 +124,15 @@ pub record Recovers (P : Board) (s : Shape) (i : ℕ) (c : Block) (t : Turn) (fu
       → (f.answer ≡ Fetched) × Packets s 1 f.after × SamePacket (code_of s P.product) (packet_in s.words f.after) (c j)
 
 pub record Together (P : Board) (ts : List Turn) (Q : Board) (us : List Turn) : Type 0 where
-  -- what both were sent of one codeword, whichever packets each accepted and in whatever order, both recover as that codeword
+  -- if each accepted only packets of one codeword for a block, whichever and in whatever order, at k positions or more, both recover that codeword
   pub recover : (past past' : List Turn) (t t' : Turn) (future future' : List Turn) → ts ≡ past ++ t ∷ future → us ≡ past' ++ t' ∷ future'
       → (s : Shape) (i : ℕ) (c : Block) → Codeword (code_of s P.product) c → RepairsEnough P s i c past t → RepairsEnough Q s i c past' t'
       → Recovers P s i c t future × Recovers Q s i c t' future'
-  -- with stores of one size, as far as both were asked the same their transcripts are the same: every answer, every value, every word of a run
+  -- with stores of equal capacity, as far as both were asked the same, their transcripts are the same: every answer, every value, every word of a run
   pub same : P.capacity ≡ Q.capacity → (past past' future future' : List Turn) → ts ≡ past ++ future → us ≡ past' ++ future'
       → asked past ≡ asked past' → past ≡ past'
 
 pub record TwoBoards (P : Board) (ts : List Turn) (Q : Board) (us : List Turn) : Type 0 where
-  pub its : History P ts
-  pub theirs : History Q us
+  pub first : History P ts
+  pub second : History Q us
   pub together : SameProduct P Q → Together P ts Q us

@@ -9,27 +9,27 @@ use Rattle.history.specs.declared.call.Answer.{Answer}
 use Rattle.history.specs.declared.call.Answer.TheVariants.{Shaped, Fresh, Known, Whole}
 use Rattle.history.specs.Turns.{Turn}
 
--- a packet that was accepted for a block at a position
-pub record Arrival : Type 0 where
+-- a packet that was accepted for a block at a position: its frame was answered fresh or known
+pub record Acceptance : Type 0 where
   pub block : ℕ
   pub position : ℕ
   pub payload : List ℕ
 
--- the present shape, the packets accepted under it, and which blocks are whole
+-- the present shape, the packets accepted under it, and which blocks a repair has called whole
 pub record Ledger : Type 0 where
   pub shape : Option Dimensions
-  pub accepted : List Arrival
+  pub accepted : List Acceptance
   pub whole : ℕ → Bool
 
 -- a ledger with nothing but its shape
 abbrev pub opened : Option Dimensions → Ledger
 opened o = record { shape = o; accepted = []; whole = λ i. false }
 
-abbrev pub arrival : ℕ → ℕ → List ℕ → Arrival
-arrival i j ws = record { block = i; position = j; payload = ws }
+abbrev pub acceptance : ℕ → ℕ → List ℕ → Acceptance
+acceptance i j ws = record { block = i; position = j; payload = ws }
 
 -- one packet more is accepted; one block more is whole
-abbrev pub accepting : Ledger → Arrival → Ledger
+abbrev pub accepting : Ledger → Acceptance → Ledger
 accepting l a = record l { accepted = a ∷ l.accepted }
 
 abbrev pub completing : Ledger → ℕ → Ledger
@@ -39,8 +39,8 @@ completing l i = record l { whole = λ a. a == i || l.whole a }
 
 abbrev pub after_frame : Ledger → Sight → Answer → Ledger
 after_frame l (shape d) Shaped = opened (Some d)
-after_frame l (packet i j ws) Fresh = accepting l (arrival i j ws)
-after_frame l (packet i j ws) Known = accepting l (arrival i j ws)
+after_frame l (packet i j ws) Fresh = accepting l (acceptance i j ws)
+after_frame l (packet i j ws) Known = accepting l (acceptance i j ws)
 after_frame l frame answer = l
 
 abbrev pub after_call : Ledger → Call → List ℕ → Answer → Ledger
@@ -60,12 +60,12 @@ ledger ts = continued (opened None) ts
 -- What is read from it
 
 abbrev pub Accepted : Ledger → ℕ → ℕ → List ℕ → Type 0
-Accepted l i j ws = Contains l.accepted (arrival i j ws)
+Accepted l i j ws = Contains l.accepted (acceptance i j ws)
 
 -- whether some packet was accepted for block i at position j
-abbrev pub arrived : Ledger → ℕ → ℕ → Bool
-arrived l i j = list_any (λ (a : Arrival). a.block == i && a.position == j) l.accepted
+abbrev pub any_accepted : Ledger → ℕ → ℕ → Bool
+any_accepted l i j = list_any (λ (a : Acceptance). a.block == i && a.position == j) l.accepted
 
 -- whether block i has a packet at position j: it has one everywhere once it is whole
 abbrev pub has : Ledger → ℕ → ℕ → Bool
-has l i j = l.whole i || arrived l i j
+has l i j = l.whole i || any_accepted l i j

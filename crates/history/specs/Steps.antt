@@ -1,4 +1,5 @@
--- The calls of a transcript as a receiver makes them, by the contracts of its calls alone.
+-- The calls of a transcript as a receiver makes them, by the contracts of its calls alone. What the functions that make them promise
+-- is said by these; the law does not name them.
 use Rattle.std.specs.Prelude.{◌≡◌, ℕ, List, [], ◌∷◌, length, Ok, Err, Result}
 use Rattle.refusal.specs.declared.Refusal.{Refusal}
 use Rattle.refusal.specs.Numbers.{refused_with}
@@ -80,6 +81,6 @@ pub record Step (bits : ℕ) (prod : ℕ → ℕ → ℕ) (m : Meaning) (t : Tur
   pub makes : Makes bits prod m t t.call after
 
 -- all turns in order
-abbrev pub Run : ℕ → (ℕ → ℕ → ℕ) → Meaning → List Turn → Meaning → Type 0
-Run bits prod m [] after = after ≡ m
-Run bits prod m (t ∷ ts) after = (mid : Meaning) × Step bits prod m t mid × Run bits prod mid ts after
+abbrev pub AllSteps : ℕ → (ℕ → ℕ → ℕ) → Meaning → List Turn → Meaning → Type 0
+AllSteps bits prod m [] after = after ≡ m
+AllSteps bits prod m (t ∷ ts) after = (mid : Meaning) × Step bits prod m t mid × AllSteps bits prod mid ts after

@@ -13,7 +13,8 @@ pub record Turn : Type 0 where
   pub answer : Answer
   pub after : List ℕ
 
--- the transcript of entries that were lent: what each was before its call, and what it is after it
+-- the transcript of entries: what each was when they were lent, and what it is when they come back
+-- (as many come back as were lent, since the calls stay)
 abbrev pub turn : Entry → Entry → Turn
 turn old new = record { call = old.call; before = old.run.items; answer = new.answer; after = new.run.items }
 

@@ -2,7 +2,7 @@
 ghost use Rattle.std.specs.Prelude.{◌≡◌};
 ghost use Rattle.receiver.specs.Meaning.{means};
 ghost use Rattle.history.specs.Turns.{turn, transcript, calls};
-ghost use Rattle.history.specs.Steps.{taken, repaired, fetched, counted, Step, Run};
+ghost use Rattle.history.specs.Steps.{taken, repaired, fetched, counted, Step, AllSteps};
 
 use crate::call::{Answer, Call, Entry};
 use field::Arithmetic;
@@ -10,49 +10,41 @@ use receiver::{Receiver, Taken, Whole};
 use refusal::Refusal;
 use store::SlotStore;
 
-impl From<Result<Taken, Refusal>> for Answer {
-    ghost from_gives = { λ said answer. answer ≡ taken said };
-
-    fn from(said: Result<Taken, Refusal>) -> Answer {
-        match said {
-            Ok(Taken::Shaped) => Answer::Shaped,
-            Ok(Taken::Fresh) => Answer::Fresh,
-            Ok(Taken::Known) => Answer::Known,
-            Err(refusal) => Answer::Refused(refusal),
-        }
+fn taken(said: Result<Taken, Refusal>) -> Answer
+    ensures { result ≡ taken said }
+{
+    match said {
+        Ok(Taken::Shaped) => Answer::Shaped,
+        Ok(Taken::Fresh) => Answer::Fresh,
+        Ok(Taken::Known) => Answer::Known,
+        Err(refusal) => Answer::Refused(refusal),
     }
 }
 
-impl From<Result<Whole, Refusal>> for Answer {
-    ghost from_gives = { λ said answer. answer ≡ repaired said };
-
-    fn from(said: Result<Whole, Refusal>) -> Answer {
-        match said {
-            Ok(Whole { restored }) => Answer::Whole { restored },
-            Err(refusal) => Answer::Refused(refusal),
-        }
+fn repaired(said: Result<Whole, Refusal>) -> Answer
+    ensures { result ≡ repaired said }
+{
+    match said {
+        Ok(Whole { restored }) => Answer::Whole { restored },
+        Err(refusal) => Answer::Refused(refusal),
     }
 }
 
-impl From<Result<(), Refusal>> for Answer {
-    ghost from_gives = { λ said answer. answer ≡ fetched said };
-
-    fn from(said: Result<(), Refusal>) -> Answer {
-        match said {
-            Ok(()) => Answer::Fetched,
-            Err(refusal) => Answer::Refused(refusal),
-        }
+fn fetched(said: Result<(), Refusal>) -> Answer
+    ensures { result ≡ fetched said }
+{
+    match said {
+        Ok(()) => Answer::Fetched,
+        Err(refusal) => Answer::Refused(refusal),
     }
 }
 
-impl From<Result<usize, Refusal>> for Answer {
-    ghost from_gives = { λ said answer. answer ≡ counted said };
-
-    fn from(said: Result<usize, Refusal>) -> Answer {
-        match said {
-            Ok(positions) => Answer::Held { positions },
-            Err(refusal) => Answer::Refused(refusal),
-        }
+fn counted(said: Result<usize, Refusal>) -> Answer
+    ensures { result ≡ counted said }
+{
+    match said {
+        Ok(positions) => Answer::Held { positions },
+        Err(refusal) => Answer::Refused(refusal),
     }
 }
 
@@ -64,10 +56,10 @@ fn make<F: Arithmetic, S: SlotStore>(receiver: &mut Receiver<F, S>, entry: &mut 
 {
     let run = &mut entry.run;
     entry.answer = match entry.call {
-        Call::Take => receiver.take(run).into(),
-        Call::Repair { block } => receiver.repair(block, run).into(),
-        Call::Fetch { block, position } => receiver.fetch(block, position, run).into(),
-        Call::Count { block } => receiver.count(block).into(),
+        Call::Take => taken(receiver.take(run)),
+        Call::Repair { block } => repaired(receiver.repair(block, run)),
+        Call::Fetch { block, position } => fetched(receiver.fetch(block, position, run)),
+        Call::Count { block } => counted(receiver.count(block)),
     };
 }
 
@@ -77,7 +69,7 @@ pub(crate) fn make_all<F: Arithmetic, S: SlotStore>(
     entries: &mut [Entry],
 )
     ensures calls { calls entries.new ≡ calls entries.old }
-    ensures run { Run F.Arithmetic.bits F.Arithmetic.prod
+    ensures run { AllSteps F.Arithmetic.bits F.Arithmetic.prod
         (means receiver.old) (transcript entries.old entries.new) (means receiver.new) }
 {
     for entry in entries.iter_mut() {

@@ -71,18 +71,18 @@ fn answered(rt: &impl Abort, entries: &[Entry], rows: &[Row<'_>]) {
 
 // The calls of the rows on two boards of different make, whose stores have words of any kind at first.
 fn boards(heap: Global, rt: &impl Abort, its: &[Row<'_>], theirs: &[Row<'_>]) -> Result<(), Fail> {
-    let mut its_entries = entries(heap, its)?;
-    let mut their_entries = entries(heap, theirs)?;
+    let mut first_entries = entries(heap, its)?;
+    let mut second_entries = entries(heap, theirs)?;
     let mut memory = [5; 27];
     let mut flash = [5; 28];
     trial_of_octets(
         MemoryStore::new(&mut memory),
-        &mut its_entries,
+        &mut first_entries,
         Transposed(NorStore::new(&mut flash)),
-        &mut their_entries,
+        &mut second_entries,
     );
-    answered(rt, &its_entries, its);
-    answered(rt, &their_entries, theirs);
+    answered(rt, &first_entries, its);
+    answered(rt, &second_entries, theirs);
     Ok(())
 }
 

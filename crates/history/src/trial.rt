@@ -18,59 +18,60 @@ use store::SlotStore;
 ///
 /// `law` holds whatever the calls and their runs are (`specs/Law.antt`): each is answered as the ones before it tell; a block that is
 /// called whole is the one codeword that agrees with the packets accepted for it; and where the products of the arithmetics are equal,
-/// both boards recover what was sent, and give the same answers to the same calls.
+/// both boards recover a codeword of which each accepted enough packets, and, if the capacities of the stores are equal too, give the
+/// same answers to the same calls.
 pub fn trial<F: Arithmetic + Drop, S: SlotStore + Drop, G: Arithmetic + Drop, T: SlotStore + Drop>(
     first: F,
-    its_store: S,
-    its_entries: &mut [Entry],
+    first_store: S,
+    first_entries: &mut [Entry],
     second: G,
-    their_store: T,
-    their_entries: &mut [Entry],
+    second_store: T,
+    second_entries: &mut [Entry],
 )
     ensures law { TwoBoards
-        (board F.Arithmetic S.SlotStore its_store)
-        (transcript its_entries.old its_entries.new)
-        (board G.Arithmetic T.SlotStore their_store)
-        (transcript their_entries.old their_entries.new) }
-    ensures its_calls { calls its_entries.new ≡ calls its_entries.old }
-    ensures their_calls { calls their_entries.new ≡ calls their_entries.old }
+        (board F.Arithmetic S.SlotStore first_store)
+        (transcript first_entries.old first_entries.new)
+        (board G.Arithmetic T.SlotStore second_store)
+        (transcript second_entries.old second_entries.new) }
+    ensures first_calls { calls first_entries.new ≡ calls first_entries.old }
+    ensures second_calls { calls second_entries.new ≡ calls second_entries.old }
 {
-    let mut it = Receiver::new(first, its_store);
-    let mut other = Receiver::new(second, their_store);
-    make_all(&mut it, its_entries);
-    make_all(&mut other, their_entries);
+    let mut one = Receiver::new(first, first_store);
+    let mut other = Receiver::new(second, second_store);
+    make_all(&mut one, first_entries);
+    make_all(&mut other, second_entries);
 }
 
-/// A [`trial`] of two makes of octet: the first board has the stepped one, the second the tabled one. Their products are equal, so
-/// that what holds of boards with equal products holds of these.
+/// A [`trial`] of two makes of octet, the stepped and the tabled one. Their products are equal, so that what holds of boards with
+/// equal products holds of these.
 pub fn trial_of_octets<S: SlotStore + Drop, T: SlotStore + Drop>(
-    its_store: S,
-    its_entries: &mut [Entry],
-    their_store: T,
-    their_entries: &mut [Entry],
+    first_store: S,
+    first_entries: &mut [Entry],
+    second_store: T,
+    second_entries: &mut [Entry],
 )
     ensures law { TwoBoards
-        (octet_board S.SlotStore its_store)
-        (transcript its_entries.old its_entries.new)
-        (octet_board T.SlotStore their_store)
-        (transcript their_entries.old their_entries.new) }
+        (octet_board S.SlotStore first_store)
+        (transcript first_entries.old first_entries.new)
+        (octet_board T.SlotStore second_store)
+        (transcript second_entries.old second_entries.new) }
     ensures together { Together
-        (octet_board S.SlotStore its_store)
-        (transcript its_entries.old its_entries.new)
-        (octet_board T.SlotStore their_store)
-        (transcript their_entries.old their_entries.new) }
-    ensures its_calls { calls its_entries.new ≡ calls its_entries.old }
-    ensures their_calls { calls their_entries.new ≡ calls their_entries.old }
+        (octet_board S.SlotStore first_store)
+        (transcript first_entries.old first_entries.new)
+        (octet_board T.SlotStore second_store)
+        (transcript second_entries.old second_entries.new) }
+    ensures first_calls { calls first_entries.new ≡ calls first_entries.old }
+    ensures second_calls { calls second_entries.new ≡ calls second_entries.old }
 {
     let tabled = Tabled {
         tables: OctetTables,
     };
     trial(
         SteppedOctet,
-        its_store,
-        its_entries,
+        first_store,
+        first_entries,
         tabled,
-        their_store,
-        their_entries,
+        second_store,
+        second_entries,
     );
 }

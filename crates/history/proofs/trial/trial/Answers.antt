@@ -9,13 +9,13 @@ pub returns-clause-law : goal.returns-clause-law
 returns-clause-law g c =
     let F = g.F.Arithmetic in
     let G = g.G.Arithmetic in
-    boards (board F g.S.SlotStore c.args.its_store) (board G g.T.SlotStore c.args.their_store) F.inv G.inv g.met.F.Arithmetic.field g.met.G.Arithmetic.field
-    (transcript c.args.its_entries.now c.make_all.new.entries) (transcript c.args.their_entries.now c.make_all-2.new.entries)
+    boards (board F g.S.SlotStore c.args.first_store) (board G g.T.SlotStore c.args.second_store) F.inv G.inv g.met.F.Arithmetic.field g.met.G.Arithmetic.field
+    (transcript c.args.first_entries.now c.make_all.new.entries) (transcript c.args.second_entries.now c.make_all-2.new.entries)
     (record {
-      m = means c.new-it.result;
+      m = means c.new-one.result;
       end = means c.make_all.new.receiver;
-      no_shape = c.new-it.ensures.blank;
-      capacity_is = ap g.S.SlotStore.capacity c.new-it.ensures.store;
+      no_shape = c.new-one.ensures.blank;
+      capacity_is = ap g.S.SlotStore.capacity c.new-one.ensures.store;
       ran = c.make_all.ensures.run;
       sound = c.make_all.new.receiver.sound;
     })
