@@ -3,7 +3,7 @@ use crate::alpha::*;
 use crate::nibble::*;
 use crate::octet::*;
 use crate::power::raise;
-use crate::same::same_octets;
+use crate::same::{same_field, same_octets};
 use crate::stepped::*;
 use crate::tabled::*;
 use std::process::Abort;
@@ -37,6 +37,8 @@ fn octets(rt: HostRuntime) {
     octet::<TabledOctet>(&rt);
     octet::<SteppedOctet>(&rt);
     assert!(rt; same_octets(0xFFFF_FFFF, 0x1234_56B7));
+    assert!(rt; same_field::<SteppedOctet, TabledOctet>());
+    assert!(rt; !same_field::<Nibble, TabledOctet>());
 }
 
 // Only the low bits of an operand count.
