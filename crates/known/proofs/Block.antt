@@ -22,7 +22,7 @@ use Rattle.layout.specs.Checks.{loss_refusal}
 use Rattle.layout.proofs.Passes.{losses_many, losses_ok, run_ok, width_ok, pass_both}
 use Rattle.code.specs.Lost.{AgreeOff, Contradicted}
 use Rattle.code.specs.Calls.{CodewordRun, Encoded, Repaired, repair_refusal, AfterRepair}
-use Rattle.known.specs.Known.{nibble, small, IsSmall, Lists, changed}
+use Rattle.known.specs.Known.{nibble, small, IsSmall, Lists, known, changed}
 use Rattle.known.proofs.Forced.{encoded, repaired, contradicted}
 use Rattle.known.proofs.Given.{restores, refuses}
 
@@ -45,9 +45,6 @@ code d = record { rows = d.rows; words = d.words; positions = d.positions; parit
 
 abbrev at : Dimensions → List ℕ → Block
 at d run q i c = get_or run (q * (d.rows * d.words) + (i * d.words + c)) 0
-
-abbrev pub known : List ℕ
-known = 8 ∷ 9 ∷ 2 ∷ 4 ∷ 9 ∷ 0xB ∷ 6 ∷ 0xC ∷ 1 ∷ 2 ∷ 4 ∷ 8 ∷ []
 
 -- the changed block with position 0 solved: sum 0 is zero
 abbrev solved : List ℕ

@@ -1,14 +1,15 @@
 -- Known values, by the definitions that the contracts of the calls name.
-use Rattle.std.specs.Prelude.{◌≡◌, ℕ, List, [], ◌∷◌, length, take, drop, set, Some, None}
+use Rattle.std.specs.Prelude.{◌≡◌, ℕ, List, [], ◌∷◌, length, take, drop, set, Some, None, Result}
+use Rattle.refusal.specs.declared.Refusal.{Refusal}
 use Rattle.galois.specs.Field.{product, inverse, power}
 use Rattle.layout.specs.declared.shape.Dimensions.{Dimensions}
 use Rattle.layout.specs.declared.shape.Shape.{Shape}
 use Rattle.layout.specs.declared.losses.LossList.{LossList}
-use Rattle.layout.specs.Made.{dimensions_of, shape_refusal, lost_at, LossesRefused}
+use Rattle.layout.specs.Made.{dimensions_of, shape_refusal, lost_at, LossesMade, LossesRefused}
 use Rattle.layout.specs.Blocks.{block_at}
 use Rattle.layout.specs.Checks.{loss_refusal}
 use Rattle.code.specs.Lost.{AgreeOff, Contradicted}
-use Rattle.code.specs.Calls.{Encoded, Repaired}
+use Rattle.code.specs.Calls.{Encoded, Repaired, AfterRepair}
 use Rattle.frame.specs.Frames.{shape, packet, frame_words, parse}
 use Rattle.store.specs.Grids.{format_refusal}
 
@@ -37,9 +38,28 @@ IsSmall s = dimensions_of s ≡ small
 abbrev pub Lists : LossList → List ℕ → Type 0
 Lists l xs = (l.len ≡ length xs) × (lost_at l ≡ xs)
 
+-- the known block: positions 0 and 1 are parity, position 2 is source
+abbrev pub known : List ℕ
+known = 8 ∷ 9 ∷ 2 ∷ 4 ∷ 9 ∷ 0xB ∷ 6 ∷ 0xC ∷ 1 ∷ 2 ∷ 4 ∷ 8 ∷ []
+
 -- the block with row 0 of position 1 changed to 8
 abbrev pub changed : List ℕ → List ℕ
 changed block = set block 4 8
+
+-- the answer of a loss list made of these positions, for the shape of the known block
+pub record MadeOf (positions : List ℕ) (r : Result LossList Refusal) : Type 0 where
+  pub shape : Shape
+  pub small : IsSmall shape
+  pub made : LossesMade shape positions r
+
+-- the answer of a repair of the changed block with these positions lost, and the work run before and after
+pub record RepairsChanged (positions work work' : List ℕ) (r : Result (Unit {0}) Refusal) : Type 0 where
+  pub shape : Shape
+  pub small : IsSmall shape
+  pub losses : LossList
+  pub lists : Lists losses positions
+  pub block : List ℕ
+  pub after : AfterRepair 4 shape nibble losses (changed known) block work work' r
 
 pub record KnownValues (block : List ℕ) : Type 0 where
   -- powers of α, and an inverse

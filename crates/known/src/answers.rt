@@ -1,7 +1,7 @@
 // What the calls answer for the known block, where a contract relates the answer to the codewords that agree.
-ghost use Rattle.std.specs.Prelude.{◌≡◌, [], ◌∷◌, Ok, Some, None, IfOk};
+ghost use Rattle.std.specs.Prelude.{◌≡◌, ℕ, List, [], ◌∷◌, length, Ok, Some, None, IfOk};
 ghost use Rattle.refusal.specs.Numbers.{refused_with};
-ghost use Rattle.known.specs.Known.{IsSmall, Lists};
+ghost use Rattle.known.specs.Known.{IsSmall, Lists, MadeOf, RepairsChanged};
 
 use crate::known_block;
 use code::block::{encode, repair};
@@ -45,35 +45,43 @@ pub fn repaired() -> Result<[u32; 12], Refusal>
     Ok(block)
 }
 
-// Three lost positions.
-pub fn too_few() -> Result<LossList, Refusal>
-    ensures { refused_with result ≡ Some (7, []) }
+/// The list of these lost positions, for the shape of the known block. Three are too many.
+pub fn known_losses(positions: &[usize]) -> Result<LossList, Refusal>
+    ensures made { MadeOf positions.now result }
+    ensures too_few { positions.now ≡ 0 ∷ 1 ∷ 2 ∷ [] → refused_with result ≡ Some (7, []) }
 {
-    LossList::new(&known_shape()?, &[0, 1, 2])
+    LossList::new(&known_shape()?, positions)
 }
 
 // A repair of the block with row 0 of position 1 changed to 8.
-fn repair_changed(shape: &Shape, lost: &LossList) -> Result<(), Refusal>
+fn repair_changed(shape: &Shape, lost: &LossList, work: &mut [u32]) -> Result<(), Refusal>
     requires shape { IsSmall shape.now }
+    requires work { length work.old ≡ 12 }
     ensures none { Lists lost.now [] → refused_with result ≡ Some (8, 0 ∷ 0 ∷ []) }
     ensures first { Lists lost.now (0 ∷ []) → refused_with result ≡ Some (8, 1 ∷ 0 ∷ []) }
+    ensures repair { (positions : List ℕ) → Lists lost.now positions
+        → RepairsChanged positions work.old work.new result }
 {
     let mut block = known_block();
     block[4] = 8;
-    repair::<Nibble>(shape, &mut block, lost, &mut [0; 12])
+    repair::<Nibble>(shape, &mut block, lost, work)
 }
 
-// With nothing lost.
-pub fn contradicted() -> Result<(), Refusal>
-    ensures { refused_with result ≡ Some (8, 0 ∷ 0 ∷ []) }
+/// The refusal of the changed block with nothing lost. It is the answer of the repair, which leaves the work run zero.
+pub fn contradicted(work: &mut [u32]) -> Result<(), Refusal>
+    requires { length work.old ≡ 12 }
+    ensures refused { refused_with result ≡ Some (8, 0 ∷ 0 ∷ []) }
+    ensures repair { RepairsChanged [] work.old work.new result }
 {
-    repair_changed(&known_shape()?, &LossList::none())
+    repair_changed(&known_shape()?, &LossList::none(), work)
 }
 
-// With position 0 lost.
-pub fn contradicted_behind() -> Result<(), Refusal>
-    ensures { refused_with result ≡ Some (8, 1 ∷ 0 ∷ []) }
+/// The refusal of the changed block with position 0 lost, likewise.
+pub fn contradicted_behind(work: &mut [u32]) -> Result<(), Refusal>
+    requires { length work.old ≡ 12 }
+    ensures refused { refused_with result ≡ Some (8, 1 ∷ 0 ∷ []) }
+    ensures repair { RepairsChanged (0 ∷ []) work.old work.new result }
 {
     let shape = known_shape()?;
-    repair_changed(&shape, &LossList::new(&shape, &[0])?)
+    repair_changed(&shape, &LossList::new(&shape, &[0])?, work)
 }

@@ -1,4 +1,6 @@
-use crate::answers::{contradicted, contradicted_behind, encoded, known_shape, repaired, too_few};
+use crate::answers::{
+    contradicted, contradicted_behind, encoded, known_losses, known_shape, repaired,
+};
 use crate::known_block;
 use code::block::{check, repair};
 use field::Arithmetic;
@@ -48,7 +50,7 @@ fn parity(rt: HostRuntime) -> Result<(), Fail> {
 #[test]
 fn losses(rt: HostRuntime) -> Result<(), Fail> {
     assert!(rt; repaired()? == known_block());
-    assert!(rt; too_few().err() == Some(Refusal::TooFew));
+    assert!(rt; known_losses(&[0, 1, 2]).err() == Some(Refusal::TooFew));
     let longer = Shape::new::<Nibble>(one_block(4, 5, 2))?;
     let three = LossList::new(&longer, &[0, 1, 2])?;
     let mut block = known_block();
@@ -60,8 +62,9 @@ fn losses(rt: HostRuntime) -> Result<(), Fail> {
 
 #[test]
 fn contradictions(rt: HostRuntime) {
-    assert!(rt; contradicted() == Err(Refusal::Contradictory { sum: 0, word: 0 }));
-    assert!(rt; contradicted_behind() == Err(Refusal::Contradictory { sum: 1, word: 0 }));
+    let mut work = [7; 12];
+    assert!(rt; contradicted(&mut work) == Err(Refusal::Contradictory { sum: 0, word: 0 }));
+    assert!(rt; contradicted_behind(&mut work) == Err(Refusal::Contradictory { sum: 1, word: 0 }));
 }
 
 #[test]
