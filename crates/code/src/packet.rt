@@ -43,15 +43,15 @@ fn add_selected(columns: &[u32; 10], i: usize, shape: &Shape, source: &[u32], ro
 }
 
 // Adds the matrix times the packet `source` to the packet `target`.
-fn add_product(columns: &[u32; 10], shape: &Shape, source: &[u32], target: &mut [u32])
+fn add_product(columns: [u32; 10], shape: &Shape, source: &[u32], target: &mut [u32])
     requires target { length target.old ≡ packet_of shape.now }
     requires source { length source.now ≡ packet_of shape.now }
-    ensures { (i c : ℕ) → i < shape.now.rows → c < shape.now.words → packet_in shape.now.words target.new i c ≡ bit_xor (packet_in shape.now.words target.old i c) (selected shape.now.rows columns.now i (packet_in shape.now.words source.now) c) }
+    ensures { (i c : ℕ) → i < shape.now.rows → c < shape.now.words → packet_in shape.now.words target.new i c ≡ bit_xor (packet_in shape.now.words target.old i c) (selected shape.now.rows columns i (packet_in shape.now.words source.now) c) }
 {
     let w = shape.words();
     // By index: of a run that `chunks_mut` lent, only the length is known afterwards.
     for i in 0..shape.rows() {
-        add_selected(columns, i, shape, source, &mut target[i * w..i * w + w]);
+        add_selected(&columns, i, shape, source, &mut target[i * w..i * w + w]);
     }
 }
 
@@ -62,6 +62,6 @@ impl<'a, F: Arithmetic> Code<'a, F> {
         requires source { length source.now ≡ packet_of self.now.shape.now }
         ensures { SamePacket (code_of self.now.shape.now F.Arithmetic.prod) (packet_in self.now.shape.now.words target.new) (λ i c. bit_xor (packet_in self.now.shape.now.words target.old i c) (scaled (code_of self.now.shape.now F.Arithmetic.prod) (a % 2 ^ F.Arithmetic.bits) (packet_in self.now.shape.now.words source.now) i c)) }
     {
-        add_product(&columns::<F>(a), self.shape, source, target);
+        add_product(columns::<F>(a), self.shape, source, target);
     }
 }

@@ -16,6 +16,6 @@ loop-i-preserved c =
     let width = c.words-w.ensures in
     let fits : i * v + v ≤ length t = part_ends i c.rows-i-end.result v c.rows-i-end.ensures width (c.loop-i.auto.target ∙ c.requires.target) c.loop-i-test.true in
     let long = part_length t i v fits in
-    rows_more s.rows s.words c.args.columns.now c.args.source.now i v _ _ t c.add_selected.new.row width (omega arith) fits (omega arith)
-    (λ k l. c.add_selected.ensures k l ∙ ap (λ u. bit_xor u (selected s.rows c.args.columns.now i (packet_in s.words c.args.source.now) k)) (part_read t i v s.words k width l))
+    rows_more s.rows s.words c.args.columns c.args.source.now i v _ _ t c.add_selected.new.row width (omega arith) fits (omega arith)
+    (λ k l. c.add_selected.ensures k l ∙ ap (λ u. bit_xor u (selected s.rows c.args.columns i (packet_in s.words c.args.source.now) k)) (part_read t i v s.words k width l))
     c.loop-i.invariant
