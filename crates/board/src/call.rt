@@ -90,20 +90,16 @@ impl<T: Drop> From<AllocFailed<T>> for Error {
 }
 
 fn number(text: &str) -> Result<usize, Error> {
-    text.parse().map_err(|_| Error::NoNumber)
+    digits::number(text).ok_or(Error::NoNumber)
 }
 
-// The word that eight digits spell.
 fn word(text: &str) -> Result<u32, Error> {
-    if text.len() != 8 || !text.bytes().all(|b| matches!(b, b'0'..=b'9' | b'a'..=b'f')) {
-        return Err(Error::NoWord);
-    }
-    u32::from_str_radix(text, 16).map_err(|_| Error::NoWord)
+    digits::word(text).ok_or(Error::NoWord)
 }
 
-fn frame(heap: Global, digits: &[&str]) -> Result<Vec<u32>, Error> {
+fn frame(heap: Global, words: &[&str]) -> Result<Vec<u32>, Error> {
     let mut frame = Vec::new(heap);
-    for text in digits {
+    for text in words {
         frame.push(word(text)?)?;
     }
     Ok(frame)
@@ -141,8 +137,8 @@ impl Call {
     pub fn parse(heap: Global, line: &str) -> Result<Call, Error> {
         let parts: Vec<&str> = line.split_whitespace().collect(heap)?;
         match parts.as_slice() {
-            ["take", digits @ ..] => Ok(Call::Take {
-                frame: frame(heap, digits)?,
+            ["take", words @ ..] => Ok(Call::Take {
+                frame: frame(heap, words)?,
             }),
             ["repair", block, length] => Ok(Call::Repair {
                 block: number(block)?,

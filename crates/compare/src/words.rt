@@ -70,20 +70,12 @@ impl<T: Drop> From<AllocFailed<T>> for Error {
     }
 }
 
-// The number that digits spell; `parse` takes a sign too.
 fn number(text: &str) -> Result<usize, Error> {
-    if !text.bytes().all(|b| b.is_ascii_digit()) {
-        return Err(Error::NoNumber);
-    }
-    text.parse().map_err(|_| Error::NoNumber)
+    digits::number(text).ok_or(Error::NoNumber)
 }
 
-// The word that eight digits spell.
 fn word(text: &str) -> Result<u32, Error> {
-    if text.len() != 8 || !text.bytes().all(|b| matches!(b, b'0'..=b'9' | b'a'..=b'f')) {
-        return Err(Error::NoWord);
-    }
-    u32::from_str_radix(text, 16).map_err(|_| Error::NoWord)
+    digits::word(text).ok_or(Error::NoWord)
 }
 
 // The words that are still to be read. Each is read as what the call wants in its place.
