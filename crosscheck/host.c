@@ -1,12 +1,16 @@
 /* Reads host calls from standard input, one to a line, makes each over libguyekpan.a, and writes what it answers and the
-   strings afterwards, one to a line. README.md has the format. */
+   strings afterwards, one to a line. README.md has the format. Each call is made on a stack of GUYEKPAN_STACK bytes: one that
+   needs more ends the program. */
 
-#define _POSIX_C_SOURCE 200809L
+#define _DEFAULT_SOURCE
 
 #include <ctype.h>
 #include <stdio.h>
 #include <stdlib.h>
 #include <string.h>
+#include <sys/mman.h>
+#include <ucontext.h>
+#include <unistd.h>
 
 #include "guyekpan.h"
 
@@ -85,6 +89,42 @@ static unsigned long make(struct call *c)
     return 0;
 }
 
+/* What `on_stack` and `make_on` hand each other: a context starts with numbers for arguments alone. */
+static struct {
+    struct call *call;
+    unsigned long answer;
+} made;
+
+static void on_stack(void)
+{
+    made.answer = make(made.call);
+}
+
+/* A stack of GUYEKPAN_STACK bytes, below which stands a page that nobody may touch. */
+static unsigned char *new_stack(void)
+{
+    size_t page = (size_t) sysconf(_SC_PAGESIZE);
+    unsigned char *pages = mmap(NULL, page + GUYEKPAN_STACK, PROT_READ | PROT_WRITE, MAP_PRIVATE | MAP_ANONYMOUS, -1, 0);
+    if (pages == MAP_FAILED || mprotect(pages, page, PROT_NONE) != 0)
+        fail("no stack", "");
+    return pages + page;
+}
+
+static unsigned long make_on(unsigned char *stack, struct call *call)
+{
+    ucontext_t here, there;
+    made.call = call;
+    if (getcontext(&there) != 0)
+        fail("no context", call->name);
+    there.uc_stack.ss_sp = stack;
+    there.uc_stack.ss_size = GUYEKPAN_STACK;
+    there.uc_link = &here;
+    makecontext(&there, on_stack, 0);
+    if (swapcontext(&here, &there) != 0)
+        fail("no context", call->name);
+    return made.answer;
+}
+
 static void write_result(const struct call *call, unsigned long number)
 {
     printf("%lu", number);
@@ -100,9 +140,12 @@ int main(void)
 {
     char *line = NULL;
     size_t room = 0;
+    unsigned char *stack = new_stack();
+    /* Line by line, so that the results before a call that ends the program are seen. */
+    setvbuf(stdout, NULL, _IOLBF, 0);
     while (getline(&line, &room, stdin) > 0) {
         struct call call = read_call(line);
-        unsigned long number = make(&call);
+        unsigned long number = make_on(stack, &call);
         write_result(&call, number);
         for (int i = 0; i < call.count; i++)
             free(call.strings[i].bytes);

@@ -5,7 +5,8 @@
    i * m * w up to (i + 1) * m * w. A block has at most 8,192 words.
 
    Runs of words are passed as strings of bytes, each with its length: every word is four bytes, the highest first. A pointer is
-   never null, also where the length is 0, and strings do not overlap. A call needs no heap, and 112 KB of stack at most.
+   never null, also where the length is 0, and strings do not overlap. A call needs no heap, and at most
+   GUYEKPAN_STACK bytes of stack.
 
    A call answers one number:
 
@@ -28,6 +29,10 @@
 
 #include <stddef.h>
 #include <stdint.h>
+
+/* The bytes of stack that a call needs at most, 104 KB. This is measured on x86-64 and not proved: a repair takes 100 KB, and some
+   3 KB more where the loader has yet to find the C library's memcpy. */
+#define GUYEKPAN_STACK 106496
 
 #ifdef __cplusplus
 extern "C" {
