@@ -1,14 +1,14 @@
 -- Slots lie within the words and apart from each other; so a write to one slot fills that slot alone.
-use Rattle.std.proofs.Common.{◌≡◌, ℕ, suc, ◌+◌, ◌-◌, ◌*◌, ◌/◌, ◌%◌, ◌<◌, ◌≤◌, Bool, true, false, cond, ltb, ◌⊎◌, List, ◌∷◌, length, take, drop, replicate, None, sym, refl, ap, ◌∙◌, subst, inl, inr, mul-le-mul_right, add-mul, arith, rules}
+use Rattle.std.proofs.Common.{◌≡◌, ℕ, suc, ◌+◌, ◌-◌, ◌*◌, ◌/◌, ◌%◌, ◌<◌, ◌≤◌, Bool, true, false, cond, ltb, ◌⊎◌, List, ◌∷◌, ◌++◌, length, take, drop, replicate, None, sym, refl, ap, ◌∙◌, subst, inl, inr, mul-le-mul_right, add-mul, arith, rules}
 use borrow.Rule.Slice.PartMut.{put_mid}
-use Rattle.std.proofs.lemmas.List.{drop-replicate, take-replicate, length-replicate, places}
+use Rattle.std.proofs.lemmas.List.{drop-drop, drop-replicate, take-replicate, length-replicate, places}
 use Rattle.std.proofs.lemmas.Slice.{take-put_mid_below, drop-put_mid, between-put_mid, between_is}
 use Rattle.std.proofs.lemmas.Bool.{cases_order, cases_Bool, and_parts, ltb-true, cond-false, cond-true}
 use Rattle.std.proofs.lemmas.Bool.Decides.{nat_tests}
 use Rattle.std.proofs.lemmas.Nat.{mul-add-lt, div-mul-add, mod-mul-add}
 use Rattle.store.specs.declared.slots.Format.{Format}
 use Rattle.store.specs.Grids.{format_fits, Filled, Emptied}
-use Rattle.store.specs.Layout.{slot_at, slot_words, packet_of, rows_of, has_slot, grid_of, Place}
+use Rattle.store.specs.Layout.{slot_at, slot_put, slot_words, packet_of, rows_of, has_slot, grid_of, Place}
 
 -- the slots of a format that fits take no more than the capacity
 fits_product : (k r c n : ℕ) → format_fits k r c n ≡ true → r * c * (n + 1) ≤ k
@@ -45,11 +45,10 @@ words_there xs new at n b le e way = elim way [
   | inr h ↦ ap (take (b + n + 1 - b)) (drop-put_mid at (n + 1) xs new b (omega arith) (omega arith) e)
 ]
 
--- the grid after the words of a slot were replaced by the mark of a filled one and its packet
-pub filled : (empty : List ℕ → Bool) (f : Format) (i j at k mark : ℕ) (xs new ws : List ℕ) → Place (length xs) f i j at
+replaced : (empty : List ℕ → Bool) (f : Format) (i j at k mark : ℕ) (xs new ws : List ℕ) → Place (length xs) f i j at
     → k ≡ f.size + 1 → length ws ≡ f.size → new ≡ mark ∷ ws → empty (mark ∷ ws) ≡ false
     → Filled (grid_of empty f xs) i j ws (grid_of empty f (put_mid at k xs new))
-filled empty f i j at k mark xs new ws p ends len is e =
+replaced empty f i j at k mark xs new ws p ends len is e =
     let n = f.size in
     let c = f.columns in
     let h = p.within in
@@ -75,6 +74,13 @@ filled empty f i j at k mark xs new ws p ends len is e =
             | inr o ↦ cond-false _ _ _ o ∙ sym (cond-false _ _ _ o)
           ];
     })
+
+-- the grid after the words of a slot were overwritten by the mark of a filled one and its packet
+pub filled : (empty : List ℕ → Bool) (f : Format) (i j at mark : ℕ) (xs ws : List ℕ) → Place (length xs) f i j at → length ws ≡ f.size → empty (mark ∷ ws) ≡ false
+    → Filled (grid_of empty f xs) i j ws (grid_of empty f (slot_put xs at (mark ∷ ws)))
+filled empty f i j at mark xs ws p len e =
+    subst (λ l. Filled (grid_of empty f xs) i j ws (grid_of empty f (take at xs ++ (mark ∷ ws ++ l)))) (drop-drop (suc (length ws)) at xs)
+    (replaced empty f i j at (suc (length ws)) mark xs (mark ∷ ws) ws p (omega arith) len refl e)
 
 -- the grid of words that hold empty slots everywhere
 pub emptied : (empty : List ℕ → Bool) (f : Format) (xs : List ℕ) → format_fits (length xs) f.rows f.columns f.size ≡ true

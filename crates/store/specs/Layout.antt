@@ -52,6 +52,11 @@ pub record InSlot (xs : List ℕ) (f : Format) (i j : ℕ) (ws : List ℕ) : Typ
   pub words_are : ws ≡ slot_words xs (slot_at f i j) f.size
   pub length_is : length ws ≡ f.size + 1
 
+-- the format that a store keeps after it was to take f
+abbrev pub format_after : Result (Unit {0}) Refusal → Format → Format → Format
+format_after (Ok u) f before = f
+format_after (Err e) f before = before
+
 -- the words after a format was to be made: all blank, or as they were
 abbrev pub words_after_clear : Result (Unit {0}) Refusal → ℕ → List ℕ → List ℕ
 words_after_clear (Ok u) blank xs = replicate (length xs) blank

@@ -1,5 +1,5 @@
 -- Words of NOR flash, and what the calls of the NOR store leave in them. Word 0 is the lock.
-use Rattle.std.specs.Prelude.{◌≡◌, refl, ℕ, zero, suc, ◌+◌, ◌-◌, Bool, true, List, [], ◌∷◌, length, drop, replicate, Ok, Err, Result, ◌==◌, bit_and, slice_index, slice_set}
+use Rattle.std.specs.Prelude.{◌≡◌, refl, ℕ, zero, suc, ◌+◌, ◌-◌, Bool, true, List, ◌∷◌, length, drop, replicate, Ok, Err, Result, ◌==◌, slice_index, slice_set}
 use Rattle.std.specs.List.{list_all}
 use Rattle.refusal.specs.declared.Refusal.{Refusal}
 use Rattle.store.specs.declared.slots.Format.{Format}
@@ -13,16 +13,6 @@ lock_of ws = slice_index ws 0
 -- every word is erased
 abbrev pub erased : List ℕ → Bool
 erased xs = list_all (λ x. x == 4294967295) xs
-
--- each word of xs with the word of ys at its place; what lies past ys stays
-abbrev pub over : (ℕ → ℕ → ℕ) → List ℕ → List ℕ → List ℕ
-over f [] ys = []
-over f (x ∷ xs) [] = x ∷ xs
-over f (x ∷ xs) (y ∷ ys) = f x y ∷ over f xs ys
-
--- old AND new
-unfoldable pub programmed : List ℕ → List ℕ → List ℕ
-programmed xs ys = over bit_and xs ys
 
 -- a slot is empty when its mark and its packet are erased
 abbrev pub nor_grid : Format → List ℕ → Grid

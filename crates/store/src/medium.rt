@@ -1,51 +1,75 @@
 // What a store does with its slots, over any medium.
-ghost use Rattle.std.specs.Prelude.{◌≡◌, ℕ, ◌+◌, ◌<◌, Bool, true, false, List, ◌∷◌, length, replicate, OnOk};
+ghost use Rattle.std.specs.Prelude.{◌≡◌, ℕ, ◌+◌, ◌<◌, ◌≤◌, Bool, true, false, List, ◌∷◌, length, replicate, OnOk};
+ghost use Rattle.std.specs.Borrow.{GName};
 ghost use Rattle.refusal.specs.Numbers.{refused_with};
 ghost use Rattle.store.specs.Grids.{Emptied, format_refusal, held_answer, put_refusal, AfterPut, get_refusal, after_get};
-ghost use Rattle.store.specs.Layout.{grid_of, slot_at, words_after_clear, words_after_put};
+ghost use Rattle.store.specs.Layout.{grid_of, slot_at, slot_put, slot_words, words_after_clear, words_after_put};
 
 use crate::slots::{Format, Slot};
 use refusal::Refusal;
 
-// How words tell an empty slot from a filled one, and how they take a packet.
+// The words of a store's slots, lent to be written: how they tell an empty slot from a filled one,
+// and how they take a packet.
 pub(crate) trait Medium {
+    ghost words: { Self → List ℕ };
+
+    // The loan of the run that the words lie in.
+    ghost loan: { Self → GName };
+
+    // Whether the words may be written.
+    ghost writable: { Self → Type 0 };
+
     // Whether these are the words of an empty slot.
     ghost empty: { List ℕ → Bool };
 
     // The mark of a filled slot.
     ghost mark: { ℕ };
 
-    ghost BLANK: { ℕ };
-
     // What each word is when all slots are empty.
-    const BLANK: u32;
+    ghost blank: { ℕ };
 
     fn is_empty(slot: &[u32]) -> bool
         requires { 0 < length slot.now }
         ensures { result ≡ empty slot.now };
 
-    // Fills an empty slot.
-    fn fill(slot: &mut [u32], packet: &[u32])
-        requires room { length slot.old ≡ length packet.now + 1 }
-        requires unfilled { empty slot.old ≡ true }
-        ensures { slot.new ≡ mark ∷ packet.now };
+    fn words(&self) -> &[u32]
+        ensures { result.now ≡ words self.now };
+
+    // Makes every slot empty.
+    fn blank(&mut self)
+        requires { writable self.old }
+        ensures words { words self.new ≡ replicate (length (words self.old)) blank }
+        ensures lent { loan self.new ≡ loan self.old };
+
+    // Fills the empty slot that begins at `at`.
+    fn fill(&mut self, at: usize, packet: &[u32])
+        requires writable { writable self.old }
+        requires room { at + length packet.now + 1 ≤ length (words self.old) }
+        requires unfilled { empty (slot_words (words self.old) at (length packet.now)) ≡ true }
+        ensures words { words self.new ≡ slot_put (words self.old) at (mark ∷ packet.now) }
+        ensures kept { length (words self.new) ≡ length (words self.old) }
+        ensures lent { loan self.new ≡ loan self.old };
 
     ghost filled_by_mark: { (ws : List ℕ) → empty (mark ∷ ws) ≡ false };
 
-    ghost empty_when_blank: { (n : ℕ) → empty (BLANK ∷ replicate n BLANK) ≡ true };
+    ghost empty_when_blank: { (n : ℕ) → empty (blank ∷ replicate n blank) ≡ true };
 }
 
 impl Format {
     // Makes every slot empty.
-    pub(crate) fn clear<M: Medium>(self, slots: &mut [u32]) -> Result<(), Refusal>
-        ensures answer { refused_with result ≡ format_refusal (length slots.old) self.rows self.columns self.size }
-        ensures words { slots.new ≡ words_after_clear result M.BLANK slots.old }
-        ensures after { OnOk result (Emptied self.rows self.columns self.size (grid_of M.empty self slots.new)) }
+    pub(crate) fn clear<M: Medium>(self, medium: &mut M) -> Result<(), Refusal>
+        requires { M.writable medium.old }
+        ensures answer { refused_with result
+            ≡ format_refusal (length (M.words medium.old)) self.rows self.columns self.size }
+        ensures words { M.words medium.new ≡ words_after_clear result M.blank (M.words medium.old) }
+        ensures after { OnOk result
+            (Emptied self.rows self.columns self.size (grid_of M.empty self (M.words medium.new))) }
+        ensures lent { M.loan medium.new ≡ M.loan medium.old }
     {
-        if !self.fits(slots.len()) {
+        if !self.fits(medium.words().len()) {
             return Err(Refusal::BadFormat);
         }
-        slots.fill(M::BLANK);
+        medium.blank();
         Ok(())
     }
 
@@ -59,23 +83,33 @@ impl Format {
     // Fills an empty slot.
     pub(crate) fn put<M: Medium>(
         self,
-        slots: &mut [u32],
+        medium: &mut M,
         slot: Slot,
         packet: &[u32],
     ) -> Result<(), Refusal>
-        ensures answer { refused_with result ≡ put_refusal (grid_of M.empty self slots.old) slot.row slot.column packet.now }
-        ensures words { slots.new ≡ words_after_put result slots.old (slot_at self slot.row slot.column) (M.mark ∷ packet.now) }
-        ensures after { AfterPut result (grid_of M.empty self slots.old) slot.row slot.column packet.now (grid_of M.empty self slots.new) }
+        requires { M.writable medium.old }
+        ensures answer { refused_with result
+            ≡ put_refusal (grid_of M.empty self (M.words medium.old))
+            slot.row slot.column packet.now }
+        ensures words { M.words medium.new
+            ≡ words_after_put result (M.words medium.old)
+            (slot_at self slot.row slot.column) (M.mark ∷ packet.now) }
+        ensures kept { length (M.words medium.new) ≡ length (M.words medium.old) }
+        ensures after { AfterPut result (grid_of M.empty self (M.words medium.old))
+            slot.row slot.column packet.now
+            (grid_of M.empty self (M.words medium.new)) }
+        ensures lent { M.loan medium.new ≡ M.loan medium.old }
     {
-        let range = self.range(slots.len(), slot)?;
-        let words = &mut slots[range];
+        let words = medium.words();
+        let range = self.range(words.len(), slot)?;
+        let at = range.start;
         if packet.len() != self.size {
             return Err(Refusal::WrongSize);
         }
-        if !M::is_empty(words) {
+        if !M::is_empty(&words[range]) {
             return Err(Refusal::SlotFilled);
         }
-        M::fill(words, packet);
+        medium.fill(at, packet);
         Ok(())
     }
 

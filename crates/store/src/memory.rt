@@ -1,8 +1,9 @@
 // A store in memory, over a lent run of words. A slot's mark is 1 when it is filled, 0 when it is empty.
-ghost use Rattle.std.specs.Prelude.{◌≡◌, length};
+ghost use Rattle.std.specs.Prelude.{◌≡◌, ◌<◌, ◌∷◌, length};
 ghost use Rattle.std.proofs.Common.{refl};
-ghost use Rattle.store.specs.Grids.{NoSlots};
-ghost use Rattle.store.specs.Layout.{memory_grid, unmarked};
+ghost use Rattle.refusal.specs.Numbers.{refused_with};
+ghost use Rattle.store.specs.Grids.{NoSlots, format_refusal, AfterFormat, put_refusal, AfterPut};
+ghost use Rattle.store.specs.Layout.{memory_grid, slot_at, unmarked, format_after, words_after_clear, words_after_put};
 
 use crate::SlotStore;
 use crate::medium::Medium;
@@ -10,22 +11,49 @@ use crate::slots::{Format, Slot};
 use refusal::Refusal;
 
 // Memory: a slot takes a packet while its mark is 0.
-struct Memory;
+struct Memory<'a> {
+    words: &'a mut [u32],
+}
 
-impl Medium for Memory {
+// By hand, and not derived, so that the clause says to each caller that the words stay.
+impl Drop for Memory<'_> {
+    fn drop(self)
+        ensures { self.exit.0.now ≡ self.entry.words.now }
+    {
+        let Memory { words: _words } = self;
+    }
+}
+
+impl Medium for Memory<'_> {
+    ghost words = { λ m. m.words.now };
+
+    ghost loan = { λ m. m.words.ghost_name };
+
+    ghost writable = { λ m. Unit {0} };
+
     ghost empty = { unmarked };
 
     ghost mark = { 1 };
 
-    ghost BLANK = { 0 };
+    ghost blank = { 0 };
 
-    const BLANK: u32 = 0;
-
-    fn is_empty(slot: &[u32]) -> bool {
+    fn is_empty(slot: &[u32]) -> bool
+        requires { 0 < length slot.now }
+        ensures { result ≡ unmarked slot.now }
+    {
         slot[0] == 0
     }
 
-    fn fill(slot: &mut [u32], packet: &[u32]) {
+    fn words(&self) -> &[u32] {
+        self.words
+    }
+
+    fn blank(&mut self) {
+        self.words.fill(0);
+    }
+
+    fn fill(&mut self, at: usize, packet: &[u32]) {
+        let slot = &mut self.words[at..at + packet.len() + 1];
         slot[0] = 1;
         slot[1..].copy_from_slice(packet);
     }
@@ -45,6 +73,7 @@ impl<'a> MemoryStore<'a> {
     // A store with no rows and no columns.
     pub fn new(words: &'a mut [u32]) -> MemoryStore<'a>
         ensures words { result.words.now ≡ words.old }
+        ensures lent { result.words.ghost_name ≡ words.entry.ghost_name }
         ensures grid { NoSlots (memory_grid result.format result.words.now) }
     {
         MemoryStore {
@@ -61,21 +90,46 @@ impl SlotStore for MemoryStore<'_> {
 
     ghost lock = { λ s. 0 };
 
-    fn format(&mut self, format: Format) -> Result<(), Refusal> {
-        format.clear::<Memory>(self.words)?;
+    fn format(&mut self, format: Format) -> Result<(), Refusal>
+        ensures answer { refused_with result
+            ≡ format_refusal (length self.old.words.now) format.rows format.columns format.size }
+        ensures after { AfterFormat result (memory_grid self.old.format self.old.words.now)
+            format.rows format.columns format.size
+            (memory_grid self.new.format self.new.words.now) }
+        ensures kept { length self.new.words.now ≡ length self.old.words.now }
+        ensures words { self.new.words.now ≡ words_after_clear result 0 self.old.words.now }
+        ensures format { self.new.format ≡ format_after result format self.old.format }
+        ensures lent { self.new.words.ghost_name ≡ self.old.words.ghost_name }
+    {
+        let mut medium = Memory { words: self.words };
+        format.clear(&mut medium)?;
         self.format = format;
         Ok(())
     }
 
     fn held(&self, slot: Slot) -> Result<bool, Refusal> {
-        self.format.held::<Memory>(self.words, slot)
+        self.format.held::<Memory<'_>>(self.words, slot)
     }
 
-    fn put(&mut self, slot: Slot, words: &[u32]) -> Result<(), Refusal> {
-        self.format.put::<Memory>(self.words, slot, words)
+    fn put(&mut self, slot: Slot, words: &[u32]) -> Result<(), Refusal>
+        ensures answer { refused_with result
+            ≡ put_refusal (memory_grid self.old.format self.old.words.now)
+            slot.row slot.column words.now }
+        ensures after { AfterPut result (memory_grid self.old.format self.old.words.now)
+            slot.row slot.column words.now
+            (memory_grid self.new.format self.new.words.now) }
+        ensures kept { length self.new.words.now ≡ length self.old.words.now }
+        ensures words { self.new.words.now
+            ≡ words_after_put result self.old.words.now
+            (slot_at self.old.format slot.row slot.column) (1 ∷ words.now) }
+        ensures format { self.new.format ≡ self.old.format }
+        ensures lent { self.new.words.ghost_name ≡ self.old.words.ghost_name }
+    {
+        let mut medium = Memory { words: self.words };
+        self.format.put(&mut medium, slot, words)
     }
 
     fn get(&self, slot: Slot, run: &mut [u32]) -> Result<(), Refusal> {
-        self.format.get::<Memory>(self.words, slot, run)
+        self.format.get::<Memory<'_>>(self.words, slot, run)
     }
 }

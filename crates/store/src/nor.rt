@@ -1,12 +1,12 @@
 // A store in NOR flash, over a lent run of words. Word 0 is the lock: 0 shut, 1 open.
 // Slots follow it. A slot's mark is all ones when it is empty, 0 when it is filled.
 // Programming a word leaves old AND new, so only an erased slot can take a packet.
-ghost use Rattle.std.specs.Prelude.{◌≡◌, ◌+◌, ◌-◌, ◌<◌, ◌∷◌, drop, length, slice_set, OnOk};
+ghost use Rattle.std.specs.Prelude.{◌≡◌, ◌+◌, ◌-◌, ◌<◌, ◌∷◌, bit_and, drop, length, replicate, slice_index, slice_set, OnOk};
 ghost use Rattle.std.proofs.Common.{refl};
 ghost use Rattle.refusal.specs.Numbers.{refused_with};
-ghost use Rattle.store.specs.Grids.{Emptied, NoSlots, format_refusal, put_refusal, AfterPut};
-ghost use Rattle.store.specs.Layout.{slot_at};
-ghost use Rattle.store.specs.Nor.{erased, erased_blank, lock_of, nor_grid, programmed, run_after_format, run_after_put};
+ghost use Rattle.store.specs.Grids.{Emptied, NoSlots, format_refusal, AfterFormat, put_refusal, AfterPut};
+ghost use Rattle.store.specs.Layout.{slot_at, format_after};
+ghost use Rattle.store.specs.Nor.{erased, erased_blank, lock_of, nor_grid, run_after_format, run_after_put};
 
 use crate::SlotStore;
 use crate::medium::Medium;
@@ -19,27 +19,52 @@ const ERASED: u32 = 0xFFFFFFFF;
 // The mark of a filled slot.
 const FILLED: u32 = 0;
 
-// A lock that is open. Dropping it shuts the lock.
+// Flash whose lock is open. It alone programs and erases words, and dropping it shuts the lock.
 struct Guard<'a> {
-    lock: &'a mut u32,
+    words: &'a mut [u32],
+    ghost some: { 0 < length words.now },
 }
 
 impl<'a> Guard<'a> {
-    fn open(lock: &'a mut u32) -> Guard<'a>
-        ensures lent { result.lock.ghost_name ≡ lock.entry.ghost_name }
-        ensures open { result.lock.now ≡ 1 }
+    fn open(words: &'a mut [u32]) -> Guard<'a>
+        requires { 0 < length words.old }
+        ensures lent { result.words.ghost_name ≡ words.entry.ghost_name }
+        ensures run { result.words.now ≡ slice_set words.old 0 1 }
     {
-        *lock = 1;
-        Guard { lock }
+        words[0] = 1;
+        Guard { words }
+    }
+
+    // Programs a word: old AND new.
+    fn program(&mut self, at: usize, new: u32)
+        requires unlocked { lock_of self.old.words.now ≡ 1 }
+        requires past_lock { 0 < at }
+        requires inside { at < length self.old.words.now }
+        ensures still { lock_of self.new.words.now ≡ 1 }
+        ensures run { self.new.words.now
+            ≡ slice_set self.old.words.now at (bit_and (slice_index self.old.words.now at) new) }
+        ensures lent { self.new.words.ghost_name ≡ self.old.words.ghost_name }
+    {
+        self.words[at] &= new;
+    }
+
+    // Erases every word but the lock.
+    fn erase(&mut self)
+        requires { lock_of self.old.words.now ≡ 1 }
+        ensures run { self.new.words.now
+            ≡ 1 ∷ replicate (length self.old.words.now - 1) 4294967295 }
+        ensures lent { self.new.words.ghost_name ≡ self.old.words.ghost_name }
+    {
+        self.words[1..].fill(ERASED);
     }
 }
 
 impl Drop for Guard<'_> {
     fn drop(self)
-        ensures { self.exit.0.now ≡ 0 }
+        ensures { self.exit.0.now ≡ slice_set self.entry.words.now 0 0 }
     {
-        let Guard { lock } = self;
-        *lock = 0;
+        let Guard { words } = self;
+        words[0] = 0;
     }
 }
 
@@ -50,47 +75,42 @@ fn is_erased(words: &[u32]) -> bool
     words.iter().all(|word| *word == ERASED)
 }
 
-// Programs each word: old AND new.
-#[tactic(auto, using(crate::proofs::Flash::over_none, crate::proofs::Flash::programs_more), unfolding(crate::specs::Nor::programmed))]
-fn program(words: &mut [u32], new: &[u32])
-    requires { length words.old ≡ length new.now }
-    ensures { words.new ≡ programmed words.old new.now }
-{
-    // By an index: of what a loop over `iter_mut().zip(new)` leaves, a proof knows the length alone.
-    for (i, x) in new.iter().enumerate() {
-        words[i] &= *x;
-    }
-}
+// A slot takes a packet only while all its words are erased.
+impl Medium for Guard<'_> {
+    ghost words = { λ g. drop 1 g.words.now };
 
-// Programs the packet and then the mark of a slot.
-#[tactic(auto, using(crate::proofs::Flash::slot_programmed))]
-fn program_slot(slot: &mut [u32], packet: &[u32])
-    requires { length slot.old ≡ length packet.now + 1 }
-    ensures { slot.new ≡ programmed slot.old (0 ∷ packet.now) }
-{
-    program(&mut slot[1..], packet);
-    slot[0] &= FILLED;
-}
+    ghost loan = { λ g. g.words.ghost_name };
 
-// Flash: a slot takes a packet only while all its words are erased.
-struct Nor;
+    ghost writable = { λ g. lock_of g.words.now ≡ 1 };
 
-impl Medium for Nor {
     ghost empty = { erased };
 
     ghost mark = { 0 };
 
-    ghost BLANK = { 4294967295 };
+    ghost blank = { 4294967295 };
 
-    const BLANK: u32 = ERASED;
-
-    fn is_empty(slot: &[u32]) -> bool {
+    fn is_empty(slot: &[u32]) -> bool
+        requires { 0 < length slot.now }
+        ensures { result ≡ erased slot.now }
+    {
         is_erased(slot)
     }
 
-    #[tactic(auto, using(crate::proofs::Flash::programs_erased, crate::proofs::Flash::word_before))]
-    fn fill(slot: &mut [u32], packet: &[u32]) {
-        program_slot(slot, packet);
+    fn words(&self) -> &[u32] {
+        past_lock(self.words)
+    }
+
+    fn blank(&mut self) {
+        self.erase();
+    }
+
+    // The packet first, and then the mark.
+    #[tactic(auto, using(crate::proofs::Flash::fills_more, crate::proofs::Flash::mark_last))]
+    fn fill(&mut self, at: usize, packet: &[u32]) {
+        for (i, word) in packet.iter().enumerate() {
+            self.program(at + 2 + i, *word);
+        }
+        self.program(at + 1, FILLED);
     }
 
     ghost filled_by_mark = { λ ws. refl };
@@ -106,40 +126,38 @@ fn past_lock(words: &[u32]) -> &[u32]
 }
 
 // Erases the run for a grid of this format.
-pub fn format_words(words: &mut [u32], format: Format) -> Result<(), Refusal>
-    ensures answer { refused_with result ≡ format_refusal (length words.old - 1) format.rows format.columns format.size }
+#[tactic(auto, using(crate::proofs::Flash::format_run))]
+fn format_words(words: &mut [u32], format: Format) -> Result<(), Refusal>
+    ensures answer { refused_with result
+        ≡ format_refusal (length words.old - 1) format.rows format.columns format.size }
     ensures run { words.new ≡ run_after_format result words.old }
     ensures shut { lock_of words.new ≡ 0 }
-    ensures after { OnOk result (Emptied format.rows format.columns format.size (nor_grid format words.new)) }
+    ensures after { OnOk result
+        (Emptied format.rows format.columns format.size (nor_grid format words.new)) }
 {
     if words.is_empty() {
         return Err(Refusal::BadFormat);
     }
-    // Split and opened in place, as in `put_words`: a function that handed out both would hide what the run holds afterwards.
-    let (lock, slots) = words.split_at_mut(1);
-    let _guard = Guard::open(&mut lock[0]);
-    format.clear::<Nor>(slots)
+    let mut guard = Guard::open(words);
+    format.clear(&mut guard)
 }
 
 // Fills an empty slot of a grid in the run.
 #[tactic(auto, using(crate::proofs::Flash::put_run))]
-pub fn put_words(
-    words: &mut [u32],
-    format: Format,
-    slot: Slot,
-    packet: &[u32],
-) -> Result<(), Refusal>
-    ensures answer { refused_with result ≡ put_refusal (nor_grid format words.old) slot.row slot.column packet.now }
-    ensures run { words.new ≡ run_after_put result words.old (slot_at format slot.row slot.column) packet.now }
+fn put_words(words: &mut [u32], format: Format, slot: Slot, packet: &[u32]) -> Result<(), Refusal>
+    ensures answer { refused_with result
+        ≡ put_refusal (nor_grid format words.old) slot.row slot.column packet.now }
+    ensures run { words.new
+        ≡ run_after_put result words.old (slot_at format slot.row slot.column) packet.now }
     ensures shut { lock_of words.new ≡ 0 }
-    ensures after { AfterPut result (nor_grid format words.old) slot.row slot.column packet.now (nor_grid format words.new) }
+    ensures after { AfterPut result (nor_grid format words.old)
+        slot.row slot.column packet.now (nor_grid format words.new) }
 {
     if words.is_empty() {
         return Err(Refusal::OutsideGrid);
     }
-    let (lock, slots) = words.split_at_mut(1);
-    let _guard = Guard::open(&mut lock[0]);
-    format.put::<Nor>(slots, slot, packet)
+    let mut guard = Guard::open(words);
+    format.put(&mut guard, slot, packet)
 }
 
 // Flash with a grid of slots. Reading leaves the lock alone; what writes shuts it again.
@@ -153,6 +171,7 @@ impl<'a> NorStore<'a> {
     // A store with no rows and no columns, its lock shut.
     pub fn new(words: &'a mut [u32]) -> NorStore<'a>
         ensures run { result.words.now ≡ slice_set words.old 0 0 }
+        ensures lent { result.words.ghost_name ≡ words.entry.ghost_name }
         ensures grid { NoSlots (nor_grid result.format result.words.now) }
     {
         if !words.is_empty() {
@@ -172,21 +191,48 @@ impl SlotStore for NorStore<'_> {
 
     ghost lock = { λ s. lock_of s.words.now };
 
-    fn format(&mut self, format: Format) -> Result<(), Refusal> {
+    fn format(&mut self, format: Format) -> Result<(), Refusal>
+        ensures answer { refused_with result
+            ≡ format_refusal (length self.old.words.now - 1)
+            format.rows format.columns format.size }
+        ensures after { AfterFormat result (nor_grid self.old.format self.old.words.now)
+            format.rows format.columns format.size
+            (nor_grid self.new.format self.new.words.now) }
+        ensures kept { length self.new.words.now - 1 ≡ length self.old.words.now - 1 }
+        ensures shut { lock_of self.new.words.now ≡ 0 }
+        ensures words { self.new.words.now ≡ run_after_format result self.old.words.now }
+        ensures format { self.new.format ≡ format_after result format self.old.format }
+        ensures lent { self.new.words.ghost_name ≡ self.old.words.ghost_name }
+    {
         format_words(self.words, format)?;
         self.format = format;
         Ok(())
     }
 
     fn held(&self, slot: Slot) -> Result<bool, Refusal> {
-        self.format.held::<Nor>(past_lock(self.words), slot)
+        self.format.held::<Guard<'_>>(past_lock(self.words), slot)
     }
 
-    fn put(&mut self, slot: Slot, words: &[u32]) -> Result<(), Refusal> {
+    fn put(&mut self, slot: Slot, words: &[u32]) -> Result<(), Refusal>
+        ensures answer { refused_with result
+            ≡ put_refusal (nor_grid self.old.format self.old.words.now)
+            slot.row slot.column words.now }
+        ensures after { AfterPut result (nor_grid self.old.format self.old.words.now)
+            slot.row slot.column words.now
+            (nor_grid self.new.format self.new.words.now) }
+        ensures kept { length self.new.words.now - 1 ≡ length self.old.words.now - 1 }
+        ensures shut { lock_of self.new.words.now ≡ 0 }
+        ensures words { self.new.words.now
+            ≡ run_after_put result self.old.words.now
+            (slot_at self.old.format slot.row slot.column) words.now }
+        ensures format { self.new.format ≡ self.old.format }
+        ensures lent { self.new.words.ghost_name ≡ self.old.words.ghost_name }
+    {
         put_words(self.words, self.format, slot, words)
     }
 
     fn get(&self, slot: Slot, run: &mut [u32]) -> Result<(), Refusal> {
-        self.format.get::<Nor>(past_lock(self.words), slot, run)
+        self.format
+            .get::<Guard<'_>>(past_lock(self.words), slot, run)
     }
 }

@@ -16,7 +16,7 @@ pub struct Slot {
 
 impl Slot {
     // The slot with its row and its column exchanged.
-    pub fn transposed(self) -> Slot
+    pub(crate) fn transposed(self) -> Slot
         ensures row { result.row ≡ self.column }
         ensures column { result.column ≡ self.row }
     {
@@ -36,7 +36,7 @@ pub struct Format {
 }
 
 impl Format {
-    pub fn none() -> Format
+    pub(crate) fn none() -> Format
         ensures { (result.rows ≡ 0) × (result.columns ≡ 0) × (result.size ≡ 0) }
     {
         Format {
@@ -47,7 +47,7 @@ impl Format {
     }
 
     // The format with its rows and its columns exchanged.
-    pub fn transposed(self) -> Format
+    pub(crate) fn transposed(self) -> Format
         ensures rows { result.rows ≡ self.columns }
         ensures columns { result.columns ≡ self.rows }
         ensures size { result.size ≡ self.size }
@@ -60,7 +60,7 @@ impl Format {
     }
 
     // Whether a store of this capacity takes the format.
-    pub fn fits(self, capacity: usize) -> bool
+    pub(crate) fn fits(self, capacity: usize) -> bool
         ensures { result ≡ format_fits capacity self.rows self.columns self.size }
     {
         self.rows > 0
@@ -73,7 +73,7 @@ impl Format {
     }
 
     // Where a slot begins; none outside the grid.
-    pub fn place(self, capacity: usize, slot: Slot) -> Option<usize>
+    fn place(self, capacity: usize, slot: Slot) -> Option<usize>
         ensures { MatchOption result (Outside capacity self slot.row slot.column) (Place capacity self slot.row slot.column) }
     {
         if !self.fits(capacity) || slot.row >= self.rows || slot.column >= self.columns {

@@ -1,3 +1,7 @@
+ghost use Rattle.std.specs.Prelude.{◌≡◌, ◌-◌, ◌∷◌, length, replicate, OnOk};
+ghost use Rattle.store.specs.Layout.{slot_at, slot_put};
+ghost use Rattle.store.specs.Nor.{lock_of, run_after_put};
+
 use crate::SlotStore;
 use crate::memory::MemoryStore;
 use crate::nor::NorStore;
@@ -81,4 +85,53 @@ fn an_empty_run_holds_nothing(rt: HostRuntime) {
     let mut store = NorStore::new(&mut words);
     assert_eq!(rt; store.format(format(1, 1, 1)), Err(Refusal::BadFormat));
     assert_eq!(rt; store.put(slot(0, 0), &[]), Err(Refusal::OutsideGrid));
+}
+
+// Whoever lent the run to a store knows its words when the store is gone.
+fn left_by_memory(
+    words: &mut [u32],
+    format: Format,
+    slot: Slot,
+    packet: &[u32],
+) -> Result<(), Refusal>
+    ensures { OnOk result (words.new
+        ≡ slot_put (replicate (length words.old) 0)
+        (slot_at format slot.row slot.column) (1 ∷ packet.now)) }
+{
+    let mut store = MemoryStore::new(words);
+    store.format(format)?;
+    store.put(slot, packet)
+}
+
+// In flash the lock is shut, also by a refusal.
+fn left_by_flash(
+    words: &mut [u32],
+    format: Format,
+    slot: Slot,
+    packet: &[u32],
+) -> Result<(), Refusal>
+    ensures shut { lock_of words.new ≡ 0 }
+    ensures run { OnOk result (words.new
+        ≡ run_after_put result (0 ∷ replicate (length words.old - 1) 4294967295)
+        (slot_at format slot.row slot.column) packet.now) }
+{
+    let mut store = NorStore::new(words);
+    store.format(format)?;
+    store.put(slot, packet)
+}
+
+#[test]
+fn the_run_is_known_afterwards(rt: HostRuntime) {
+    let mut words = [5; 5];
+    let mut flash = [5; 6];
+    assert_eq!(rt;
+        left_by_memory(&mut words, format(1, 2, 1), slot(0, 1), &[7]),
+        Ok(())
+    );
+    assert!(rt; words == [0, 0, 1, 7, 0]);
+    assert_eq!(rt;
+        left_by_flash(&mut flash, format(1, 2, 1), slot(0, 1), &[7]),
+        Ok(())
+    );
+    assert!(rt; flash == [0, 4294967295, 4294967295, 0, 7, 4294967295]);
 }

@@ -1,9 +1,16 @@
-use Rattle.std.proofs.Common.{arith}
+use Rattle.std.proofs.Common.{length, sym, subst}
+use Rattle.store.specs.Grids.{Filled}
+use Rattle.store.specs.Layout.{grid_of, Place}
 use Rattle.store.proofs.Places.{filled}
 use Rattle.store.proofs.slots.Format.put.Goals as goal
 
 pub returns-clause-after : goal.returns-clause-after
 returns-clause-after g c =
-    let p = c.in_ok-range.ensures in
-    filled g.M.Medium.empty c.args.self c.args.slot.row c.args.slot.column c.in_ok-range.range.start _ g.M.Medium.mark c.args.slots.now c.fill.new.slot c.args.packet.now
-    p.0 (omega arith) (omega arith) c.fill.ensures (g.met.M.Medium.filled_by_mark c.args.packet.now)
+    let f = c.args.self in
+    let s = c.args.slot in
+    let packet = c.args.packet.now in
+    let empty = g.M.Medium.empty in
+    let words = g.M.Medium.words c.args.medium.now in
+    let place = subst (λ ws. Place (length ws) f s.row s.column c.in_ok-range.range.start) c.words-words.ensures c.in_ok-range.ensures.0 in
+    subst (λ ws. Filled (grid_of empty f words) s.row s.column packet (grid_of empty f ws)) (sym c.fill.ensures.words)
+    (filled empty f s.row s.column _ g.M.Medium.mark words packet place c.if-packet-self.false (g.met.M.Medium.filled_by_mark packet))
