@@ -68,8 +68,7 @@ fn repair_changed(shape: &Shape, lost: &LossList, work: &mut [u32]) -> Result<()
 }
 
 /// The refusal of the changed block with nothing lost. It is the answer of the repair, which leaves the work run zero.
-pub fn contradicted(work: &mut [u32]) -> Result<(), Refusal>
-    requires { length work.old ≡ 12 }
+pub fn contradicted(work: &mut [u32; 12]) -> Result<(), Refusal>
     ensures refused { refused_with result ≡ Some (8, 0 ∷ 0 ∷ []) }
     ensures repair { RepairsChanged [] work.old work.new result }
 {
@@ -77,8 +76,7 @@ pub fn contradicted(work: &mut [u32]) -> Result<(), Refusal>
 }
 
 /// The refusal of the changed block with position 0 lost, likewise.
-pub fn contradicted_behind(work: &mut [u32]) -> Result<(), Refusal>
-    requires { length work.old ≡ 12 }
+pub fn contradicted_behind(work: &mut [u32; 12]) -> Result<(), Refusal>
     ensures refused { refused_with result ≡ Some (8, 1 ∷ 0 ∷ []) }
     ensures repair { RepairsChanged (0 ∷ []) work.old work.new result }
 {
