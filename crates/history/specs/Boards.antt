@@ -1,7 +1,8 @@
 -- What a board's answers depend on, besides what it is asked. A board is an unused receiver over an arithmetic and a store.
-use Rattle.std.specs.Prelude.{◌≡◌, ℕ, ◌^◌, ◌<◌}
+use Rattle.std.specs.Prelude.{ℕ}
 use Rattle.galois.specs.Field.{product}
 use Rattle.field.specs.declared.Arithmetic
+use Rattle.field.specs.Equal.{EqualProducts}
 use Rattle.store.specs.declared.SlotStore
 
 -- the width and the product of its arithmetic, and the capacity of its store, in words
@@ -17,7 +18,6 @@ board f t store = record { bits = f.bits; product = f.prod; capacity = t.capacit
 abbrev pub octet_board : {S : Type 0} → SlotStore.Ghosts S → S → Board
 octet_board t store = record { bits = 8; product = product 8 0x11D; capacity = t.capacity store }
 
--- the widths are equal, and the products of all elements
-pub record SameProduct (P Q : Board) : Type 0 where
-  pub width : P.bits ≡ Q.bits
-  pub products : (a b : ℕ) → a < 2 ^ P.bits → b < 2 ^ P.bits → P.product a b ≡ Q.product a b
+-- the widths of two boards are equal, and the products of all elements
+abbrev pub SameProduct : Board → Board → Type 0
+SameProduct P Q = EqualProducts P.bits P.product Q.bits Q.product
