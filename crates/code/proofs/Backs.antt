@@ -13,17 +13,15 @@ use Rattle.algebra.specs.Grids.{Grid, grid_xor, grid_ops, rows}
 use Rattle.algebra.proofs.Sums.{sys_right, upd_at, upd_off}
 use Rattle.algebra.proofs.Loops.{taking_step, taken_step, taking_none, found_all, found_first}
 use Rattle.algebra.proofs.Bridge.{same_rows, bridge_scaled}
-use Rattle.layout.specs.declared.shape.Shape.{Shape}
-use Rattle.layout.specs.Sizes.{parity_of}
-use Rattle.layout.specs.Blocks.{code_of, block_at}
-use Rattle.code.specs.Solving.{node_at, Solvable, gap_of, entry, Untouched, Copied, Keeps, stage_of, found_of}
+use Rattle.layout.specs.Blocks.{block_at}
+use Rattle.code.specs.Solving.{node_at, Solvable, gap_of, entry, Untouched, Copied, SameSolutions, stage_of, found_of}
 use Rattle.code.proofs.Stages.{packet_laws}
 
 -- the product that the code computes is that of the solver
-pub gap_is : (s : Shape) (prod : ℕ → ℕ → ℕ) (inv : ℕ → ℕ) (x : ℕ → ℕ) (j k y : ℕ) → gap_of prod x j k y ≡ gap (grid_ops (code_of s prod) inv) x j k y
+pub gap_is : (C : Code) (inv : ℕ → ℕ) (x : ℕ → ℕ) (j k y : ℕ) → gap_of C.product x j k y ≡ gap (grid_ops C inv) x j k y
 unfolding gap_of gap
-gap_is s prod inv x j zero y = refl
-gap_is s prod inv x j (suc k) y = ap (prod (bit_xor y (x (j + k)))) (gap_is s prod inv x j k y)
+gap_is C inv x j zero y = refl
+gap_is C inv x j (suc k) y = ap (C.product (bit_xor y (x (j + k)))) (gap_is C inv x j k y)
 
 pub gap_lt : {m : ℕ} {prod : ℕ → ℕ → ℕ} {inv : ℕ → ℕ} → FieldLaws m prod inv → (x : ℕ → ℕ) → ((s : ℕ) → x s < 2 ^ m) → (j k y : ℕ) → y < 2 ^ m → gap_of prod x j k y < 2 ^ m
 unfolding gap_of
@@ -35,33 +33,33 @@ pub sys_left : {V : Type 0} (t : ℕ) (S S' T : ℕ → V) → Sys t S S' → Sy
 sys_left t S S' T e = (λ h m l. sym (e m l) ∙ h m l, λ h m l. e m l ∙ h m l)
 
 -- the factor of entry j
-abbrev pub factor : Shape → (ℕ → ℕ → ℕ) → (ℕ → ℕ) → List ℕ → ℕ → ℕ → ℕ
-factor s prod inv x n j = theta (grid_ops (code_of s prod) inv) (node_at x) n j
+abbrev pub factor : Code → (ℕ → ℕ) → List ℕ → ℕ → ℕ → ℕ
+factor C inv x n j = theta (grid_ops C inv) (node_at x) n j
 
-module _ (s : Shape) (prod : ℕ → ℕ → ℕ) (inv : ℕ → ℕ) (x : List ℕ) (t n : ℕ) (z : Packet) where
+module _ (C : Code) (inv : ℕ → ℕ) (x : List ℕ) (t n : ℕ) (z : Packet) where
   -- packet n, in z, has been taken out of the entries below j of e, and entry n is entry 0 of e
   pub record Cleared (j : ℕ) (e u : List ℕ) : Type 0 where
-    pub kept : SamePacket (code_of s prod) (block_at s u n) (block_at s e 0)
-    pub fresh : j ≡ 0 → SamePacket (code_of s prod) (block_at s u 0) (block_at s e 0)
-    pub first : 0 < j → SamePacket (code_of s prod) (block_at s u 0) (λ i c. bit_xor (block_at s e 0 i c) (scaled (code_of s prod) (factor s prod inv x n 0) z i c))
-    pub same : (I : ℕ → Grid (code_of s prod)) → Sys t (entry s prod e) (found_of s prod inv x t n I)
-        ↔ Sys t (upd (entry s prod u) n (rows (code_of s prod) z)) (taking (grid_xor (code_of s prod)) (grid_ops (code_of s prod) inv) (node_at x) n j I)
-    pub off : Untouched s prod t e u
+    pub kept : SamePacket C (block_at C u n) (block_at C e 0)
+    pub fresh : j ≡ 0 → SamePacket C (block_at C u 0) (block_at C e 0)
+    pub first : 0 < j → SamePacket C (block_at C u 0) (λ i c. bit_xor (block_at C e 0 i c) (scaled C (factor C inv x n 0) z i c))
+    pub same : (I : ℕ → Grid C) → Sys t (entry C e) (found_of C inv x t n I)
+        ↔ Sys t (upd (entry C u) n (rows C z)) (taking (grid_xor C) (grid_ops C inv) (node_at x) n j I)
+    pub off : Untouched C t e u
 
-module _ {s : Shape} {prod : ℕ → ℕ → ℕ} {inv : ℕ → ℕ} {x : List ℕ} {t : ℕ} (v : Solvable s prod inv x t) where
-  laws : Laws (grid_xor (code_of s prod)) (grid_ops (code_of s prod) inv) (Ok s.rows) (Nz s.rows)
-  laws = packet_laws s prod inv v.laws
+module _ {C : Code} {inv : ℕ → ℕ} {x : List ℕ} {t : ℕ} (v : Solvable C inv x t) where
+  laws : Laws (grid_xor C) (grid_ops C inv) (Ok C.rows) (Nz C.rows)
+  laws = packet_laws C inv v.laws
 
   module _ (n : ℕ) (z : Packet) (pos : 0 < n) (within : n < t) where
-    pub cleared_none : (e u : List ℕ) → SamePacket (code_of s prod) z (block_at s e n) → Copied s prod n 0 e u → Cleared s prod inv x t n z 0 e u
+    pub cleared_none : (e u : List ℕ) → SamePacket C z (block_at C e n) → Copied C n 0 e u → Cleared C inv x t n z 0 e u
     cleared_none e u saved d = record {
       kept = d.at;
       fresh = λ _. d.off 0 (omega arith) (λ q. omega arith);
       first = λ h. absurd (omega arith);
       same = λ I. Iff.trans
-          (sys_left t (entry s prod e) (upd (entry s prod u) n (rows (code_of s prod) z)) _ (λ m l. elim (ℕ_discrete m n) [
-            | yes q ↦ rw q (sym (upd_at (entry s prod u) n _ ∙ same_rows (code_of s prod) _ _ saved))
-            | no q ↦ sym (upd_off (entry s prod u) n _ m q ∙ same_rows (code_of s prod) _ _ (d.off m (omega arith) q))
+          (sys_left t (entry C e) (upd (entry C u) n (rows C z)) _ (λ m l. elim (ℕ_discrete m n) [
+            | yes q ↦ rw q (sym (upd_at (entry C u) n _ ∙ same_rows C _ _ saved))
+            | no q ↦ sym (upd_off (entry C u) n _ m q ∙ same_rows C _ _ (d.off m (omega arith) q))
           ]))
           (sys_right t _ _ _ (taking_none laws (node_at x) v.elements t n I));
       off = λ μ h k. d.off μ k (λ q. omega arith);
@@ -69,28 +67,27 @@ module _ {s : Shape} {prod : ℕ → ℕ → ℕ} {inv : ℕ → ℕ} {x : List 
 
     -- entry j is cleared
     pub cleared_more : (j : ℕ) (e u u' : List ℕ) → j < n
-        → SamePacket (code_of s prod) (block_at s u' j) (λ i c. bit_xor (block_at s u j i c) (scaled (code_of s prod) (factor s prod inv x n j) z i c))
-        → ((μ : ℕ) → μ < parity_of s → (μ ≡ j → ⊥) → SamePacket (code_of s prod) (block_at s u' μ) (block_at s u μ))
-        → Cleared s prod inv x t n z j e u → Cleared s prod inv x t n z (j + 1) e u'
+        → SamePacket C (block_at C u' j) (λ i c. bit_xor (block_at C u j i c) (scaled C (factor C inv x n j) z i c))
+        → ((μ : ℕ) → μ < C.parity → (μ ≡ j → ⊥) → SamePacket C (block_at C u' μ) (block_at C u μ))
+        → Cleared C inv x t n z j e u → Cleared C inv x t n z (j + 1) e u'
     cleared_more j e u u' lt at off d =
-        let C = code_of s prod in
         let G = grid_xor C in
         let O = grid_ops C inv in
         let w = rows C z in
         let apart-jn : j ≡ n → ⊥ = λ q. omega arith in
-        let step : Added G O t (factor s prod inv x n j) j n (upd (entry s prod u) n w) (upd (entry s prod u') n w) = record {
-          at = upd_off (entry s prod u') n w j apart-jn ∙ same_rows C _ _ at ∙ ap (G.◌⊞◌ (entry s prod u j)) (sym (bridge_scaled C v.laws (factor s prod inv x n j) z))
-              ∙ sym (ap₂ (λ a b. G.◌⊞◌ a (O.◌·◌ (factor s prod inv x n j) b)) (upd_off (entry s prod u) n w j apart-jn) (upd_at (entry s prod u) n w));
+        let step : Added G O t (factor C inv x n j) j n (upd (entry C u) n w) (upd (entry C u') n w) = record {
+          at = upd_off (entry C u') n w j apart-jn ∙ same_rows C _ _ at ∙ ap (G.◌⊞◌ (entry C u j)) (sym (bridge_scaled C v.laws (factor C inv x n j) z))
+              ∙ sym (ap₂ (λ a b. G.◌⊞◌ a (O.◌·◌ (factor C inv x n j) b)) (upd_off (entry C u) n w j apart-jn) (upd_at (entry C u) n w));
           off = λ m l q. elim (ℕ_discrete m n) [
-            | yes r ↦ rw r (upd_at (entry s prod u') n w ∙ sym (upd_at (entry s prod u) n w))
-            | no r ↦ upd_off (entry s prod u') n w m r ∙ same_rows C _ _ (off m (omega arith) q) ∙ sym (upd_off (entry s prod u) n w m r)
+            | yes r ↦ rw r (upd_at (entry C u') n w ∙ sym (upd_at (entry C u) n w))
+            | no r ↦ upd_off (entry C u') n w m r ∙ same_rows C _ _ (off m (omega arith) q) ∙ sym (upd_off (entry C u) n w m r)
           ];
         } in
         record {
           kept = λ i c h l. off n (omega arith) (λ q. omega arith) i c h l ∙ d.kept i c h l;
           fresh = λ q. absurd (omega arith);
           first = λ _. elim (ℕ_discrete j 0) [
-            | yes q ↦ λ i c h l. (rw q at at) i c h l ∙ ap (λ a. bit_xor a (scaled C (factor s prod inv x n 0) z i c)) (d.fresh q i c h l)
+            | yes q ↦ λ i c h l. (rw q at at) i c h l ∙ ap (λ a. bit_xor a (scaled C (factor C inv x n 0) z i c)) (d.fresh q i c h l)
             | no q ↦ λ i c h l. off 0 (omega arith) (λ r. omega arith) i c h l ∙ d.first (omega arith) i c h l
           ];
           same = λ I. rw add-one (Iff.trans (d.same I) (taking_step laws (node_at x) v.elements t n j v.apart lt within _ _ I step));
@@ -98,39 +95,36 @@ module _ {s : Shape} {prod : ℕ → ℕ → ℕ} {inv : ℕ → ℕ} {x : List 
         }
 
     -- packet n is found
-    pub cleared_all : (e u u' : List ℕ) → Cleared s prod inv x t n z n e u
-        → SamePacket (code_of s prod) (block_at s u' n) (λ i c. bit_xor (block_at s u n i c) (block_at s u 0 i c))
-        → ((μ : ℕ) → μ < parity_of s → (μ ≡ n → ⊥) → SamePacket (code_of s prod) (block_at s u' μ) (block_at s u μ))
-        → Keeps s prod inv x t (found_of s prod inv x t n) (found_of s prod inv x t (n - 1)) e u'
+    pub cleared_all : (e u u' : List ℕ) → Cleared C inv x t n z n e u
+        → SamePacket C (block_at C u' n) (λ i c. bit_xor (block_at C u n i c) (block_at C u 0 i c))
+        → ((μ : ℕ) → μ < C.parity → (μ ≡ n → ⊥) → SamePacket C (block_at C u' μ) (block_at C u μ))
+        → SameSolutions C inv x t (found_of C inv x t n) (found_of C inv x t (n - 1)) e u'
     cleared_all e u u' d at off I = Iff.trans (d.same I) (last n refl)
       where
-        C : Code
-        C = code_of s prod
-
         G : Xor (Grid C)
         G = grid_xor C
 
         O : Ops ℕ (Grid C)
         O = grid_ops C inv
 
-        done : Scaled G O t (factor s prod inv x n 0) n (upd (entry s prod u) n (rows C z)) (entry s prod u')
+        done : Scaled G O t (factor C inv x n 0) n (upd (entry C u) n (rows C z)) (entry C u')
         done = record {
           at = same_rows C _ _ (λ i c h l. at i c h l ∙ ap₂ bit_xor (d.kept i c h l) (d.first pos i c h l)
-              ∙ sym (xor_assoc (block_at s e 0 i c) (block_at s e 0 i c) (scaled C (factor s prod inv x n 0) z i c)) ∙ ap (λ a. bit_xor a (scaled C (factor s prod inv x n 0) z i c)) (xor_self (block_at s e 0 i c)) ∙ xor_zero_l _)
-              ∙ sym (bridge_scaled C v.laws (factor s prod inv x n 0) z) ∙ ap (O.◌·◌ (factor s prod inv x n 0)) (sym (upd_at (entry s prod u) n (rows C z)));
-          off = λ m l q. same_rows C _ _ (off m (omega arith) q) ∙ sym (upd_off (entry s prod u) n (rows C z) m q);
+              ∙ sym (xor_assoc (block_at C e 0 i c) (block_at C e 0 i c) (scaled C (factor C inv x n 0) z i c)) ∙ ap (λ a. bit_xor a (scaled C (factor C inv x n 0) z i c)) (xor_self (block_at C e 0 i c)) ∙ xor_zero_l _)
+              ∙ sym (bridge_scaled C v.laws (factor C inv x n 0) z) ∙ ap (O.◌·◌ (factor C inv x n 0)) (sym (upd_at (entry C u) n (rows C z)));
+          off = λ m l q. same_rows C _ _ (off m (omega arith) q) ∙ sym (upd_off (entry C u) n (rows C z) m q);
         }
 
-        last : (k : ℕ) → n ≡ k → Sys t (upd (entry s prod u) n (rows C z)) (taking G O (node_at x) n n I) ↔ Sys t (entry s prod u') (found_of s prod inv x t (n - 1) I)
+        last : (k : ℕ) → n ≡ k → Sys t (upd (entry C u) n (rows C z)) (taking G O (node_at x) n n I) ↔ Sys t (entry C u') (found_of C inv x t (n - 1) I)
         last zero q = absurd (omega arith)
         last (suc k) q =
             let p : n - 1 ≡ k = omega arith in
             rw (p, q) (taken_step laws (node_at x) v.elements t k v.apart (omega arith) _ _ I (rw q at done))
 
-  pub found_starts : (S : List ℕ) (u : ℕ) → t ≡ suc u → Keeps s prod inv x t (stage_of s prod inv x t (t - 1)) (found_of s prod inv x t (t - 1)) S S
+  pub found_starts : (S : List ℕ) (u : ℕ) → t ≡ suc u → SameSolutions C inv x t (stage_of C inv x t (t - 1)) (found_of C inv x t (t - 1)) S S
   found_starts S u e I =
       let f : t - 1 ≡ u = omega arith in
       rw (f, e) (sys_right (suc u) _ _ _ (found_first laws (node_at x) v.elements u I))
 
-  pub found_ends : (S : List ℕ) (k : ℕ) → k ≡ 0 → Keeps s prod inv x t (found_of s prod inv x t k) (λ I. I) S S
+  pub found_ends : (S : List ℕ) (k : ℕ) → k ≡ 0 → SameSolutions C inv x t (found_of C inv x t k) (λ I. I) S S
   found_ends S k e I = rw e (sys_right t _ _ _ (found_all laws (node_at x) v.elements t I))

@@ -3,11 +3,11 @@ use Rattle.std.proofs.Common.{◌≡◌, ℕ, ◌+◌, ◌-◌, ◌*◌, ◌<◌
 use Rattle.std.specs.List.{between}
 use Rattle.std.proofs.lemmas.Bool.{cases_lt}
 use Rattle.std.proofs.lemmas.List.{take_at, drop_at, drop-drop, get_or-drop}
-use Rattle.layout.specs.declared.shape.Shape.{Shape}
+use Rattle.layout.specs.Blocks.{size_of, Run}
+use Rattle.algebra.specs.Code.{Code}
 use Rattle.layout.specs.declared.losses.LossList.{LossList}
-use Rattle.layout.specs.Sizes.{packet_of, Packets, lost}
+use Rattle.layout.specs.Sizes.{lost}
 use Rattle.layout.specs.Made.{lost_at}
-use Rattle.layout.proofs.Blocks.{packet_pos}
 
 -- element number n, x, of a list comes from an iterator over it
 pub record ItemTurn (xs : List ℕ) (n x : ℕ) (next : List ℕ) : Type 0 where
@@ -60,19 +60,19 @@ chunks_done p run m n some size le none = elim (cases_lt n m) [
 ]
 
 -- lost position number n, q, and packet number n, x, of a run of m packets come from the two iterators together
-pub record LostTurn (s : Shape) (l : LossList) (run : List ℕ) (m n q : ℕ) (x left right : List ℕ) : Type 0 where
+pub record LostTurn (C : Code) (l : LossList) (run : List ℕ) (m n q : ℕ) (x left right : List ℕ) : Type 0 where
   pub listed : n < l.len
   pub at : q ≡ lost l n
   pub places : left ≡ drop (n + 1) (lost_at l)
-  pub packet : ChunkTurn (packet_of s) run m n x right
+  pub packet : ChunkTurn (size_of C) run m n x right
 
-module _ (s : Shape) (l : LossList) (run : List ℕ) (m n : ℕ) (long : Packets s m run) (xs : List ℕ) (are : xs ≡ lost_at l) (len : length xs ≡ l.len) where
+module _ (C : Code) (some : 0 < size_of C) (l : LossList) (run : List ℕ) (m n : ℕ) (long : Run C m run) (xs : List ℕ) (are : xs ≡ lost_at l) (len : length xs ≡ l.len) where
   lost_length : length (lost_at l) ≡ l.len
   lost_length = sym (ap length are) ∙ len
 
   pub lost_turn : ((k : ℕ) → k < l.len → get_or xs k 0 ≡ lost l k) → (q size : ℕ) (left left' right x right' : List ℕ) → left ≡ drop n (lost_at l) → left ≡ q ∷ left'
-      → size ≡ packet_of s → right ≡ drop (n * packet_of s) run → (right ≡ x ++ right') × (length x ≡ min size (length right)) × (0 < length right)
-      → LostTurn s l run m n q x left' right'
+      → size ≡ size_of C → right ≡ drop (n * size_of C) run → (right ≡ x ++ right') × (length x ≡ min size (length right)) × (0 < length right)
+      → LostTurn C l run m n q x left' right'
   lost_turn places q size left left' right x right' here item same there step =
       let place = item_turn (lost_at l) n q left left' here item in
       let lt = place.lt in
@@ -82,10 +82,10 @@ module _ (s : Shape) (l : LossList) (run : List ℕ) (m n : ℕ) (long : Packets
         listed = listed;
         at = place.is ∙ sym (ap (λ z. get_or z n 0) are) ∙ places n listed;
         places = place.left;
-        packet = chunk_turn (packet_of s) run m n size right x right' (packet_pos s) long same there step;
+        packet = chunk_turn (size_of C) run m n size right x right' some long same there step;
       }
 
   -- one of the two has no more
-  pub lost_done : (left right : List ℕ) → left ≡ drop n (lost_at l) → right ≡ drop (n * packet_of s) run → n ≤ l.len → l.len ≤ m → (length left ≡ 0) ⊎ (length right ≡ 0) → n ≡ l.len
+  pub lost_done : (left right : List ℕ) → left ≡ drop n (lost_at l) → right ≡ drop (n * size_of C) run → n ≤ l.len → l.len ≤ m → (length left ≡ 0) ⊎ (length right ≡ 0) → n ≡ l.len
   lost_done left right here there le few (inl none) = let e = sym (length-drop n (lost_at l)) ∙ ap length (sym here) ∙ none in let whole = lost_length in omega arith
-  lost_done left right here there le few (inr none) = let e = chunks_done (packet_of s) run m n (packet_pos s) long (omega arith) (ap length (sym there) ∙ none) in omega arith
+  lost_done left right here there le few (inr none) = let e = chunks_done (size_of C) run m n some long (omega arith) (ap length (sym there) ∙ none) in omega arith

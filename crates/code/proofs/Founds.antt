@@ -2,17 +2,15 @@
 use Rattle.std.proofs.Common.{ℕ, ◌+◌, ◌<◌, List, sym, refl, ap, ◌∙◌, ap₂, add-one}
 use lib.Bits.{bit_xor, xor_assoc, xor_zero_r}
 use Rattle.galois.specs.Field.{power}
-use Rattle.algebra.specs.Code.{Packet, SamePacket, scaled, xors}
+use Rattle.algebra.specs.Code.{Packet, SamePacket, scaled, xors, Code}
 use Rattle.algebra.proofs.Words.{scaled_same}
-use Rattle.layout.specs.declared.shape.Shape.{Shape}
-use Rattle.layout.specs.Sizes.{parity_of}
-use Rattle.layout.specs.Blocks.{code_of, block_at}
+use Rattle.layout.specs.Blocks.{block_at}
 use Rattle.code.specs.Sums.{Absorbed}
 use Rattle.code.specs.Solving.{node_at}
 use Rattle.code.specs.Found.{FoundAdded}
 
-module _ (s : Shape) (prod : ℕ → ℕ → ℕ) (x : List ℕ) (t : ℕ) (e : List ℕ) where
-  pub found_none : FoundAdded s prod x t 0 e e
+module _ (C : Code) (x : List ℕ) (t : ℕ) (e : List ℕ) where
+  pub found_none : FoundAdded C x t 0 e e
   unfolding xors
   found_none = record {
     packets = λ k h i c a b. refl;
@@ -20,17 +18,16 @@ module _ (s : Shape) (prod : ℕ → ℕ → ℕ) (x : List ℕ) (t : ℕ) (e : 
   }
 
   -- one packet more is added
-  pub found_more : (n : ℕ) (p : Packet) (u u' : List ℕ) → n < t → SamePacket (code_of s prod) p (block_at s u n)
-      → Absorbed s prod t (parity_of s) (node_at x n) p u u' → FoundAdded s prod x t n e u → FoundAdded s prod x t (n + 1) e u'
+  pub found_more : (n : ℕ) (p : Packet) (u u' : List ℕ) → n < t → SamePacket C p (block_at C u n)
+      → Absorbed C t C.parity (node_at x n) p u u' → FoundAdded C x t n e u → FoundAdded C x t (n + 1) e u'
   unfolding xors
   found_more n p u u' lt read d f =
-      let C = code_of s prod in
       record {
         packets = λ k h i c a b. d.below k h i c a b ∙ f.packets k h i c a b;
         sums = λ μ h k i c a b.
-            let term : ℕ → ℕ = λ m. scaled C (power prod (node_at x m) μ) (block_at s e m) i c in
+            let term : ℕ → ℕ = λ m. scaled C (power C.product (node_at x m) μ) (block_at C e m) i c in
             d.at μ h k i c a b
-            ∙ ap₂ bit_xor (f.sums μ h k i c a b) (scaled_same C (power prod (node_at x n) μ) p (block_at s e n) (λ j m y z. read j m y z ∙ f.packets n lt j m y z) i c b)
-            ∙ xor_assoc (block_at s e μ i c) (xors n term) (term n)
-            ∙ ap (bit_xor (block_at s e μ i c)) (ap (λ m. xors m term) (sym (add-one n)));
+            ∙ ap₂ bit_xor (f.sums μ h k i c a b) (scaled_same C (power C.product (node_at x n) μ) p (block_at C e n) (λ j m y z. read j m y z ∙ f.packets n lt j m y z) i c b)
+            ∙ xor_assoc (block_at C e μ i c) (xors n term) (term n)
+            ∙ ap (bit_xor (block_at C e μ i c)) (ap (λ m. xors m term) (sym (add-one n)));
       }

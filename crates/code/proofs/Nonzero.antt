@@ -4,33 +4,33 @@ use native.Mathlib.Decide.{ℕ_discrete}
 use Rattle.std.specs.List.{between}
 use Rattle.std.proofs.lemmas.List.{get_or-drop}
 use Rattle.std.proofs.lemmas.List.Edits.{get_or-between}
-use Rattle.layout.specs.declared.shape.Shape.{Shape}
-use Rattle.layout.specs.Sizes.{parity_of, packet_of, Packets}
+use Rattle.layout.specs.Blocks.{size_of, Run}
+use Rattle.algebra.specs.Code.{Code}
 use Rattle.code.specs.Sums.{ZeroSums, FirstAt}
 
-module _ (s : Shape) (sums : List ℕ) (first v : ℕ) (size : v ≡ packet_of s) (long : Packets s (parity_of s) sums) (le : first ≤ parity_of s) where
+module _ (C : Code) (sums : List ℕ) (first v : ℕ) (size : v ≡ size_of C) (long : Run C C.parity sums) (le : first ≤ C.parity) where
   abbrev rest : List ℕ
   rest = drop (first * v) sums
 
-  pub rest_long : length rest ≡ (parity_of s - first) * packet_of s
+  pub rest_long : length rest ≡ (C.parity - first) * size_of C
   rest_long =
-      length-drop (first * v) sums ∙ ap (λ k. k - first * v) long ∙ ap (λ p. parity_of s * packet_of s - first * p) size
-      ∙ (let e : parity_of s ≡ first + (parity_of s - first) = omega arith in let split = ap (λ m. m * packet_of s) e ∙ add-mul first (parity_of s - first) (packet_of s) in omega arith)
+      length-drop (first * v) sums ∙ ap (λ k. k - first * v) long ∙ ap (λ p. C.parity * size_of C - first * p) size
+      ∙ (let e : C.parity ≡ first + (C.parity - first) = omega arith in let split = ap (λ m. m * size_of C) e ∙ add-mul first (C.parity - first) (size_of C) in omega arith)
 
   -- x is packet number n of these
-  module _ (n : ℕ) (x : List ℕ) (is : x ≡ between (n * packet_of s) (n * packet_of s + packet_of s) rest) where
-    word_at : (k : ℕ) → k < packet_of s → get_or x k 0 ≡ get_or sums ((first + n) * packet_of s + k) 0
+  module _ (n : ℕ) (x : List ℕ) (is : x ≡ between (n * size_of C) (n * size_of C + size_of C) rest) where
+    word_at : (k : ℕ) → k < size_of C → get_or x k 0 ≡ get_or sums ((first + n) * size_of C + k) 0
     word_at k h =
-        ap (λ l. get_or l k 0) is ∙ get_or-between rest (n * packet_of s) (n * packet_of s + packet_of s) k 0 (omega arith) ∙ get_or-drop (first * v) sums (n * packet_of s + k) 0
-        ∙ ap (λ m. get_or sums (first * m + (n * packet_of s + k)) 0) size ∙ ap (λ m. get_or sums m 0) (let split = add-mul first n (packet_of s) in omega arith)
+        ap (λ l. get_or l k 0) is ∙ get_or-between rest (n * size_of C) (n * size_of C + size_of C) k 0 (omega arith) ∙ get_or-drop (first * v) sums (n * size_of C + k) 0
+        ∙ ap (λ m. get_or sums (first * m + (n * size_of C + k)) 0) size ∙ ap (λ m. get_or sums m 0) (let split = add-mul first n (size_of C) in omega arith)
 
-    pub zeros_more : ((k : ℕ) → k < packet_of s → get_or x k 0 ≡ 0) → ZeroSums s sums first (first + n) → ZeroSums s sums first (first + (n + 1))
+    pub zeros_more : ((k : ℕ) → k < size_of C → get_or x k 0 ≡ 0) → ZeroSums C sums first (first + n) → ZeroSums C sums first (first + (n + 1))
     zeros_more z before μ j a b c = elim (ℕ_discrete μ (first + n)) [
-      | yes q ↦ ap (λ m. get_or sums (m * packet_of s + j) 0) q ∙ sym (word_at j c) ∙ z j c
+      | yes q ↦ ap (λ m. get_or sums (m * size_of C + j) 0) q ∙ sym (word_at j c) ∙ z j c
       | no q ↦ before μ j a (omega arith) c
     ]
 
-    pub first_at : (j : ℕ) → n < parity_of s - first → j < packet_of s → ((k : ℕ) → k < j → get_or x k 0 ≡ 0) → get_or x j 0 ≢ 0 → ZeroSums s sums first (first + n) → FirstAt s sums first (first + n) j
+    pub first_at : (j : ℕ) → n < C.parity - first → j < size_of C → ((k : ℕ) → k < j → get_or x k 0 ≡ 0) → get_or x j 0 ≢ 0 → ZeroSums C sums first (first + n) → FirstAt C sums first (first + n) j
     first_at j lt h z here before = record {
       from = omega arith;
       sum = omega arith;

@@ -1,20 +1,19 @@
 -- The packets found, written to the block.
 use Rattle.std.proofs.Common.{◌≡◌, ℕ, suc, ◌+◌, ◌<◌, List, sym, ap, ◌∙◌, add-one, arith}
 use native.Mathlib.Decide.{ℕ_discrete}
-use Rattle.algebra.specs.Code.{among}
+use Rattle.algebra.specs.Code.{among, Code}
 use Rattle.algebra.proofs.Marks.{true_false, among_at, among_skip}
-use Rattle.layout.specs.declared.shape.Shape.{Shape}
 use Rattle.layout.specs.declared.losses.LossList.{LossList}
 use Rattle.layout.specs.Sizes.{lost}
 use Rattle.layout.specs.Blocks.{block_at}
 use Rattle.code.specs.Written.{Written}
 
-module _ (s : Shape) (l : LossList) (sums e : List ℕ) where
+module _ (C : Code) (l : LossList) (sums e : List ℕ) where
   -- one packet more is written
   pub written_more : (n : ℕ) (u u' : List ℕ) → n < l.len
-      → ((i c : ℕ) → i < s.rows → c < s.words → block_at s u' (lost l n) i c ≡ block_at s sums n i c)
-      → ((q i c : ℕ) → (q ≡ lost l n → ⊥) → i < s.rows → c < s.words → block_at s u' q i c ≡ block_at s u q i c)
-      → Written s l n sums e u → Written s l (n + 1) sums e u'
+      → ((i c : ℕ) → i < C.rows → c < C.words → block_at C u' (lost l n) i c ≡ block_at C sums n i c)
+      → ((q i c : ℕ) → (q ≡ lost l n → ⊥) → i < C.rows → c < C.words → block_at C u' q i c ≡ block_at C u q i c)
+      → Written C l n sums e u → Written C l (n + 1) sums e u'
   written_more n u u' lt at off d = record {
     at = λ k i c h a b. elim (ℕ_discrete k n) [
       | yes q ↦ rw q (at i c a b)

@@ -1,4 +1,5 @@
 pub mod Packets
+pub mod Codewords
 pub mod Sums
 pub mod Solving
 pub mod Found
@@ -8,3 +9,4 @@ pub mod Held
 pub mod Written
 pub mod Calls
 pub mod Fits
+pub mod Values

@@ -1,30 +1,242 @@
-// The code of a shape over an arithmetic.
-ghost use Rattle.std.specs.Prelude.{◌≡◌, IfOk};
+//! The code of a shape over an arithmetic: it fills, checks and repairs blocks, and works on the sums of a block's packets.
+ghost use Rattle.std.specs.Prelude.{◌≡◌, ◌%◌, ◌^◌, ◌<◌, ◌≤◌, length, IfErr, IfOk, None, ℕ, Some, ◌≢◌};
 ghost use Rattle.refusal.specs.Numbers.{refused_with};
+ghost use Rattle.layout.specs.Blocks.{Run, ZeroRun, block_at, size_of};
 ghost use Rattle.layout.specs.Checks.{width_refusal};
 
+use crate::packet::{add_product, columns};
+use crate::solver::Solver;
 use field::Arithmetic;
-use layout::shape::Shape;
+use field::power::raise;
+use layout::losses::LossList;
+use layout::runs::clear;
+use layout::shape::{LONGEST, Shape};
 use refusal::Refusal;
 use std::marker::PhantomData;
 
-// A shape whose rows are as many as the arithmetic is wide.
+/// A shape whose rows are as many as the arithmetic is wide. Made once, it serves any number of blocks.
 #[derive(Drop)]
-pub(crate) struct Code<'a, F: Arithmetic> {
-    pub(crate) shape: &'a Shape,
+pub struct Code<F: Arithmetic> {
+    pub(crate) shape: Shape,
     field: PhantomData<F>,
-    ghost width: { shape.now.rows ≡ F.Arithmetic.bits },
+    ghost width: { shape.rows ≡ F.Arithmetic.bits },
 }
 
-impl<'a, F: Arithmetic> Code<'a, F> {
-    pub(crate) fn new(shape: &'a Shape) -> Result<Code<'a, F>, Refusal>
+impl<F: Arithmetic> Code<F> {
+    ghost use Rattle.code.specs.Packets.{AddedTimes, PacketWritten};
+    ghost use Rattle.code.specs.Sums.{AbsorbedFrom, FirstNonzero, Gained};
+    ghost use Rattle.code.specs.Lost.{Contradicts};
+    ghost use Rattle.code.specs.Held.{Filled};
+    ghost use Rattle.code.specs.Calls.{CheckedFirst, Cleared, CodewordRun, ContradictoryRun, Encoded, Repaired, Says};
+    ghost use Rattle.code.specs.Calls.{encode_refusal, check_refusal, repair_refusal};
+    ghost use Rattle.code.specs.Rebuilt.{Rebuilt, Unmatched, absorb_refusal, rebuild_refusal};
+    ghost use Rattle.code.specs.Values.{code};
+
+    /// The code of a shape; refused with `OtherWidth` if its rows are not as many as the arithmetic is wide.
+    pub fn new(shape: &Shape) -> Result<Code<F>, Refusal>
         ensures answer { refused_with result ≡ width_refusal F.Arithmetic.bits shape.now }
-        ensures of { IfOk result (λ code. code.shape.now ≡ shape.now) }
+        ensures of { IfOk result (λ made. made.shape ≡ shape.now) }
     {
         shape.check_width::<F>()?;
         Ok(Code {
-            shape,
+            shape: *shape,
             field: PhantomData,
         })
+    }
+
+    // Adds `a` times the packet `source` to the packet `target`.
+    pub(crate) fn add_times(&self, a: u32, source: &[u32], target: &mut [u32])
+        requires target { length target.old ≡ size_of (code self.now) }
+        requires source { length source.now ≡ size_of (code self.now) }
+        ensures { AddedTimes (code self.now) (a % 2 ^ F.Arithmetic.bits) source.now
+            target.old target.new }
+    {
+        add_product(columns::<F>(a), &self.shape, source, target);
+    }
+
+    // Adds a packet at node `x` to the sums from `first` on: sum μ gains x^μ times the packet.
+    pub(crate) fn add_packet(&self, sums: &mut [u32], first: usize, x: u32, packet: &[u32])
+        requires sums { Run (code self.now) (code self.now).parity sums.old }
+        requires packet { length packet.now ≡ size_of (code self.now) }
+        requires first { first ≤ (code self.now).parity }
+        requires element { x < 2 ^ F.Arithmetic.bits }
+        ensures { AbsorbedFrom (code self.now) first x packet.now sums.old sums.new }
+    {
+        let p = self.shape.packet();
+        // There are no more than 32 sums, so `as` keeps the number.
+        let mut a = raise::<F>(x, first as u32);
+        // By number: of a run that `chunks_mut` lent, only the length is known afterwards.
+        for sum in first..self.shape.parity() {
+            self.add_times(a, packet, &mut sums[sum * p..sum * p + p]);
+            a = F::product(x, a);
+        }
+    }
+
+    // Adds the packet at a position of a block to the block's sums.
+    pub(crate) fn add_at(&self, sums: &mut [u32], position: usize, packet: &[u32])
+        requires sums { Run (code self.now) (code self.now).parity sums.old }
+        requires position { position < (code self.now).positions }
+        requires packet { length packet.now ≡ size_of (code self.now) }
+        ensures { Gained (code self.now) position packet.now sums.old sums.new }
+    {
+        // A position is below 1,024, so `as` keeps it.
+        let x = raise::<F>(2, position as u32);
+        self.add_packet(sums, 0, x, packet);
+    }
+
+    // The first word that is not zero in the sums from `first` on: the sum, and the word in it.
+    pub(crate) fn first_nonzero(&self, sums: &[u32], first: usize) -> Option<(usize, usize)>
+        requires sums { Run (code self.now) (code self.now).parity sums.now }
+        requires first { first ≤ (code self.now).parity }
+        ensures { FirstNonzero (code self.now) sums.now first result }
+    {
+        let p = self.shape.packet();
+        // Two loops left by a label, and no `position` over all words: sum and word are where the loops stand, with nothing to divide.
+        let mut at = None;
+        'found: for (i, packet) in sums[first * p..].chunks(p).enumerate() {
+            for (word, value) in packet.iter().enumerate() {
+                if *value != 0 {
+                    at = Some((first + i, word));
+                    break 'found;
+                }
+            }
+        }
+        at
+    }
+
+    // Writes a packet to a position of the block.
+    pub(crate) fn write_packet(&self, block: &mut [u32], position: usize, packet: &[u32])
+        requires block { Run (code self.now) (code self.now).positions block.old }
+        requires position { position < (code self.now).positions }
+        requires packet { length packet.now ≡ size_of (code self.now) }
+        ensures { PacketWritten (code self.now) position packet.now block.old block.new }
+    {
+        let p = self.shape.packet();
+        block[position * p..position * p + p].copy_from_slice(packet);
+    }
+
+    // Finds the parity packets as packets that are lost.
+    fn fill_parity(&self, source: &[u32], parity: &mut [u32]) -> Result<(), Refusal>
+        requires source { Run (code self.now) self.now.shape.sources source.now }
+        requires parity { Run (code self.now) (code self.now).parity parity.old }
+        ensures { Filled (code self.now) source.now parity.new result }
+    {
+        let shape = &self.shape;
+        let losses = LossList::parity(shape);
+        let solver = Solver::new(self, &losses)?;
+        // Room for a packet of any shape: a board has no heap.
+        let mut scratch = [0; LONGEST];
+        clear(parity);
+        solver.absorb_held(parity, source, shape.parity());
+        solver.find(parity, &mut scratch[0..shape.packet()])
+    }
+
+    /// Fills the parity run of a block (r packets) from its source run (k packets). A run of another length is refused with
+    /// `WrongRun` and its place, source 0 or parity 1.
+    pub fn encode(&self, source: &[u32], parity: &mut [u32]) -> Result<(), Refusal>
+        ensures answer { refused_with result
+            ≡ encode_refusal self.now.shape source.now parity.old }
+        ensures filled { IfOk result (λ u. Encoded (code self.now) source.now parity.new) }
+        ensures left { IfErr result (λ e. parity.new ≡ parity.old) }
+    {
+        let shape = &self.shape;
+        shape.check_run(shape.sources(), source, 0)?;
+        shape.check_run(shape.parity(), parity, 1)?;
+        self.fill_parity(source, parity)
+    }
+
+    // Refuses runs that are no block and no work run.
+    fn check_runs(&self, block: &[u32], work: &[u32]) -> Result<(), Refusal>
+        ensures { refused_with result ≡ check_refusal self.now.shape block.now work.now }
+    {
+        let shape = &self.shape;
+        shape.check_run(shape.positions(), block, 0)?;
+        shape.check_run(shape.parity() + 1, work, 1)
+    }
+
+    /// Whether a block (n packets) is a codeword. The work run (r + 1 packets) is zero afterwards. A run of another length is
+    /// refused with `WrongRun` and its place, block 0 or work 1, and stays as it is.
+    pub fn check(&self, block: &[u32], work: &mut [u32]) -> Result<bool, Refusal>
+        ensures answer { refused_with result ≡ check_refusal self.now.shape block.now work.old }
+        ensures says { IfOk result (λ yes. Says yes (CodewordRun (code self.now) block.now)) }
+        ensures cleared { IfOk result (λ yes. ZeroRun work.new) }
+        ensures left { IfErr result (λ e. work.new ≡ work.old) }
+    {
+        self.check_runs(block, work)?;
+        let none = LossList::none();
+        let solver = Solver::new(self, &none)?;
+        let outcome = solver.find_lost(block, work);
+        clear(work);
+        Ok(outcome.is_ok())
+    }
+
+    /// Restores the packets of a block at the lost positions, whatever stands there. The work run is zero afterwards. Refused
+    /// as a check is, then as the list is (`BadLosses`, `TooFew`), and then every run stays; refused with `Contradictory` if no
+    /// codeword has the packets that are not lost, and then the block stays.
+    pub fn repair(
+        &self,
+        block: &mut [u32],
+        losses: &LossList,
+        work: &mut [u32],
+    ) -> Result<(), Refusal>
+        ensures repaired { IfOk result
+            (λ u. Repaired (code self.now) losses.now block.old block.new) }
+        ensures answer { CheckedFirst (repair_refusal self.now.shape block.old losses.now work.old)
+            (ContradictoryRun (code self.now) losses.now block.old) result }
+        ensures left { IfErr result (λ e. block.new ≡ block.old) }
+        ensures work { Cleared (repair_refusal self.now.shape block.old losses.now work.old)
+            work.old work.new }
+    {
+        self.check_runs(block, work)?;
+        let solver = Solver::new(self, losses)?;
+        let outcome = solver.restore(block, work);
+        clear(work);
+        outcome
+    }
+
+    /// Adds the packet at a position of a block to the block's sums (r packets). Refused with `WrongRun` and a place, sums 0 or
+    /// packet 1, then with `OutsideShape`, and then the sums stay.
+    pub fn absorb(&self, sums: &mut [u32], position: usize, packet: &[u32]) -> Result<(), Refusal>
+        ensures answer { refused_with result
+            ≡ absorb_refusal self.now.shape sums.old position packet.now }
+        ensures added { IfOk result
+            (λ u. Gained (code self.now) position packet.now sums.old sums.new) }
+        ensures left { IfErr result (λ e. sums.new ≡ sums.old) }
+    {
+        let shape = &self.shape;
+        shape.check_run(shape.parity(), sums, 0)?;
+        shape.check_run(1, packet, 1)?;
+        if position >= shape.positions() {
+            return Err(Refusal::OutsideShape);
+        }
+        self.add_at(sums, position, packet);
+        Ok(())
+    }
+
+    /// Turns the sums of the packets that are not lost into the packets that are, with zeros behind them. The scratch packet is
+    /// zero afterwards. Refused with `WrongRun` and a place, sums 0 or scratch 1, then as the list is, and then both runs stay;
+    /// refused with `Contradictory` if no packets have all sums, and then both are zero.
+    pub fn rebuild(
+        &self,
+        losses: &LossList,
+        sums: &mut [u32],
+        scratch: &mut [u32],
+    ) -> Result<(), Refusal>
+        ensures rebuilt { IfOk result (λ u. Rebuilt (code self.now) losses.now sums.old sums.new) }
+        ensures answer { CheckedFirst
+            (rebuild_refusal self.now.shape losses.now sums.old scratch.old)
+            (Contradicts (Unmatched (code self.now) losses.now sums.old)) result }
+        ensures sums { IfErr result (λ e. Cleared
+            (rebuild_refusal self.now.shape losses.now sums.old scratch.old) sums.old sums.new) }
+        ensures scratch { Cleared (rebuild_refusal self.now.shape losses.now sums.old scratch.old)
+            scratch.old scratch.new }
+    {
+        let shape = &self.shape;
+        shape.check_run(shape.parity(), sums, 0)?;
+        shape.check_run(1, scratch, 1)?;
+        let solver = Solver::new(self, losses)?;
+        let outcome = solver.find(sums, scratch);
+        clear(scratch);
+        outcome
     }
 }

@@ -1,13 +1,16 @@
-// An erasure code over blocks of packets, over any arithmetic: the sums of a block and its lost packets from them,
-// and encode, check and repair.
+//! An erasure code over blocks of packets, over any arithmetic: fill the parity of a block, check it, repair it.
+//!
+//! ```
+//! let code = Code::<Nibble>::new(&shape)?;
+//! code.encode(&source, &mut parity)?;
+//! code.repair(&mut block, &LossList::new(&shape, &[0, 2])?, &mut work)?;
+//! ```
 #![tactic(auto)]
 
 pub mod block;
-mod code;
+pub mod code;
 pub mod fits;
 mod packet;
-pub mod rebuild;
 mod solver;
-pub mod sums;
 #[cfg(test)]
 mod tests;

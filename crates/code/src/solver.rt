@@ -1,21 +1,18 @@
-// The packets at lost positions, from the sums of the others.
-ghost use Rattle.std.specs.Prelude.{◌≡◌, ℕ, ◌+◌, ◌-◌, ◌*◌, ◌%◌, ◌^◌, ◌<◌, ◌≤◌, length, IfOk};
+//! The packets at lost positions, from the sums of the others.
+ghost use Rattle.std.specs.Prelude.{◌≡◌, ℕ, ◌+◌, ◌%◌, ◌^◌, ◌<◌, ◌≤◌, length, IfOk};
 ghost use Rattle.refusal.specs.Numbers.{refused_with};
 ghost use Rattle.galois.specs.Field.{power};
-ghost use Rattle.layout.specs.Sizes.{parity_of, packet_of, Packets, lost, LostBelow};
+ghost use Rattle.layout.specs.Sizes.{packets_in, lost, LostBelow};
+ghost use Rattle.layout.specs.Blocks.{Run, block_at, code_of};
 ghost use Rattle.layout.specs.Checks.{loss_refusal};
-ghost use Rattle.code.specs.Found.{FoundAdded};
-ghost use Rattle.code.specs.Solving.{node_at, Solvable, gap_of, Copied, Stepped, Untouched, Keeps, sums_of, stage_of, found_of};
-ghost use Rattle.code.specs.Rebuilt.{Solved};
+ghost use Rattle.code.specs.Solving.{node_at, Solvable};
 
 use crate::code::Code;
 use crate::packet::add_words;
-use crate::sums::first_nonzero;
 use field::Arithmetic;
 use field::power::raise;
 use layout::losses::LossList;
 use layout::runs::clear;
-use layout::shape::Shape;
 use refusal::Refusal;
 
 // The lost packets of a block, to be found from its sums, with the node α^p of each lost position p. The sums and a packet of
@@ -23,33 +20,34 @@ use refusal::Refusal;
 // each step that they are the same still, and of the same length.
 #[derive(Drop)]
 pub(crate) struct Solver<'a, F: Arithmetic> {
-    pub(crate) code: Code<'a, F>,
-    pub(crate) losses: &'a LossList,
+    code: &'a Code<F>,
+    losses: &'a LossList,
     // As many as are lost, in the first places: a board has no heap.
     nodes: [u32; 32],
-    ghost below: { LostBelow losses.now code.shape.now.positions },
-    ghost at: { (s : ℕ) → s < losses.now.len → node_at nodes s ≡ power F.Arithmetic.prod 2 (lost losses.now s) },
-    ghost solvable: { Solvable code.shape.now F.Arithmetic.prod F.Arithmetic.inv nodes losses.now.len },
-}
-
-// Copies sum 0 to sum `n`.
-fn keep_first(shape: &Shape, sums: &mut [u32], n: usize)
-    requires sums { Packets shape.now (parity_of shape.now) sums.old }
-    requires n { n < parity_of shape.now }
-    requires some { 1 ≤ n }
-    ensures { (prod : ℕ → ℕ → ℕ) → Copied shape.now prod n 0 sums.old sums.new }
-{
-    let p = shape.packet();
-    sums.copy_within(0..p, n * p);
+    ghost below: { LostBelow losses.now code.now.shape.positions },
+    ghost at: { (s : ℕ) → s < losses.now.len
+        → node_at nodes s ≡ power F.Arithmetic.prod 2 (lost losses.now s) },
+    ghost solvable: { Solvable (code_of code.now.shape F.Arithmetic.prod) F.Arithmetic.inv
+        nodes losses.now.len },
 }
 
 impl<'a, F: Arithmetic> Solver<'a, F> {
+    ghost use Rattle.code.specs.Solving.{Copied, Stepped};
+    ghost use Rattle.code.specs.Rebuilt.{Solved};
+    ghost use Rattle.code.specs.Lost.{FoundLost};
+    ghost use Rattle.code.specs.Written.{Written};
+    ghost use Rattle.code.specs.Calls.{Restored};
+    ghost use Rattle.code.specs.Values.{code_in, lost_count, gap_in};
+    ghost use Rattle.code.specs.Values.{BlockRun, Scratch, SumsRun, WorkRun};
+    ghost use Rattle.code.specs.Values.{AddsFound, AddsHeld, Backward, Behind, Forward, Solves};
+
     // Refuses losses that a block of the code cannot have, or that are too many.
-    pub(crate) fn new(code: Code<'a, F>, losses: &'a LossList) -> Result<Solver<'a, F>, Refusal>
-        ensures answer { refused_with result ≡ loss_refusal code.entry.shape.now losses.now }
-        ensures of { IfOk result (λ solver. (solver.code.shape.now ≡ code.entry.shape.now) × (solver.losses.now ≡ losses.now)) }
+    pub(crate) fn new(code: &'a Code<F>, losses: &'a LossList) -> Result<Solver<'a, F>, Refusal>
+        ensures answer { refused_with result ≡ loss_refusal code.now.shape losses.now }
+        ensures code { IfOk result (λ v. v.code.now ≡ code.now) }
+        ensures losses { IfOk result (λ v. v.losses.now ≡ losses.now) }
     {
-        losses.check(code.shape)?;
+        losses.check(&code.shape)?;
         let mut nodes = [0; 32];
         // By index: of what `iter_mut().zip(..)` wrote, nothing is known afterwards; and by `from_fn` every place would
         // have to ask whether there is a position for it. A position is below 1,024, so `as` keeps it.
@@ -65,18 +63,18 @@ impl<'a, F: Arithmetic> Solver<'a, F> {
 
     // How many packets are lost.
     fn count(&self) -> usize
-        ensures { result ≡ self.now.losses.now.len }
+        ensures { result ≡ lost_count self.now }
     {
         self.losses.positions().len()
     }
 
     // Adds `a` times sum `from` to sum `to`, by way of `scratch`.
     fn add_entry(&self, sums: &mut [u32], scratch: &mut [u32], a: u32, to: usize, from: usize)
-        requires sums { Packets self.now.code.shape.now (parity_of self.now.code.shape.now) sums.old }
-        requires scratch { length scratch.old ≡ packet_of self.now.code.shape.now }
-        requires to { to < parity_of self.now.code.shape.now }
-        requires from { from < parity_of self.now.code.shape.now }
-        ensures { Stepped self.now.code.shape.now F.Arithmetic.prod (a % 2 ^ F.Arithmetic.bits) to from sums.old sums.new }
+        requires sums { SumsRun self.now sums.old }
+        requires scratch { Scratch self.now scratch.old }
+        requires to { to < (code_in self.now).parity }
+        requires from { from < (code_in self.now).parity }
+        ensures { Stepped (code_in self.now) (a % 2 ^ F.Arithmetic.bits) to from sums.old sums.new }
     {
         let p = self.code.shape.packet();
         scratch.copy_from_slice(&sums[from * p..from * p + p]);
@@ -86,10 +84,10 @@ impl<'a, F: Arithmetic> Solver<'a, F> {
 
     // The forward steps: stage j adds x_j times each sum to the next, from the last one down to sum j.
     fn forward(&self, sums: &mut [u32], scratch: &mut [u32])
-        requires sums { Packets self.now.code.shape.now (parity_of self.now.code.shape.now) sums.old }
-        requires scratch { length scratch.old ≡ packet_of self.now.code.shape.now }
-        ensures keeps { Keeps self.now.code.shape.now F.Arithmetic.prod F.Arithmetic.inv self.now.nodes self.now.losses.now.len (sums_of self.now.code.shape.now F.Arithmetic.prod F.Arithmetic.inv self.now.nodes self.now.losses.now.len) (stage_of self.now.code.shape.now F.Arithmetic.prod F.Arithmetic.inv self.now.nodes self.now.losses.now.len (self.now.losses.now.len - 1)) sums.old sums.new }
-        ensures off { Untouched self.now.code.shape.now F.Arithmetic.prod self.now.losses.now.len sums.old sums.new }
+        requires sums { SumsRun self.now sums.old }
+        requires scratch { Scratch self.now scratch.old }
+        ensures keeps { Forward self.now sums.old sums.new }
+        ensures off { Behind self.now sums.old sums.new }
     {
         // The numbers of the stage and of the sum are the algorithm's own: each step reads one sum and writes the next.
         let t = self.count();
@@ -104,8 +102,8 @@ impl<'a, F: Arithmetic> Solver<'a, F> {
     #[tactic(auto, unfolding(crate::specs::Solving::gap_of))]
     fn gap(&self, j: usize, n: usize) -> u32
         requires order { j ≤ n }
-        requires within { n < self.now.losses.now.len }
-        ensures value { result ≡ gap_of F.Arithmetic.prod (node_at self.now.nodes) j (n - j) (node_at self.now.nodes n) }
+        requires within { n < lost_count self.now }
+        ensures value { result ≡ gap_in self.now j n }
         ensures element { result < 2 ^ F.Arithmetic.bits }
     {
         let mut product = 1;
@@ -115,18 +113,29 @@ impl<'a, F: Arithmetic> Solver<'a, F> {
         product
     }
 
+    // Copies sum 0 to sum `n`.
+    fn keep_first(&self, sums: &mut [u32], n: usize)
+        requires sums { SumsRun self.now sums.old }
+        requires n { n < (code_in self.now).parity }
+        requires some { 1 ≤ n }
+        ensures { Copied (code_in self.now) n 0 sums.old sums.new }
+    {
+        let p = self.code.shape.packet();
+        sums.copy_within(0..p, n * p);
+    }
+
     // One backward step: finds packet `n`, the last that is not found yet, and takes it out of the sums before it.
     fn backward(&self, n: usize, sums: &mut [u32], scratch: &mut [u32])
-        requires sums { Packets self.now.code.shape.now (parity_of self.now.code.shape.now) sums.old }
-        requires scratch { length scratch.old ≡ packet_of self.now.code.shape.now }
-        requires n { n < self.now.losses.now.len }
+        requires sums { SumsRun self.now sums.old }
+        requires scratch { Scratch self.now scratch.old }
+        requires n { n < lost_count self.now }
         requires some { 1 ≤ n }
-        ensures keeps { Keeps self.now.code.shape.now F.Arithmetic.prod F.Arithmetic.inv self.now.nodes self.now.losses.now.len (found_of self.now.code.shape.now F.Arithmetic.prod F.Arithmetic.inv self.now.nodes self.now.losses.now.len n) (found_of self.now.code.shape.now F.Arithmetic.prod F.Arithmetic.inv self.now.nodes self.now.losses.now.len (n - 1)) sums.old sums.new }
-        ensures off { Untouched self.now.code.shape.now F.Arithmetic.prod self.now.losses.now.len sums.old sums.new }
+        ensures keeps { Backward self.now n sums.old sums.new }
+        ensures off { Behind self.now sums.old sums.new }
     {
         let p = self.code.shape.packet();
         scratch.copy_from_slice(&sums[n * p..n * p + p]);
-        keep_first(self.code.shape, sums, n);
+        self.keep_first(sums, n);
         // By number, as the gap is; and of a run that `chunks_mut` lent, only the length is known afterwards.
         for j in 0..n {
             let theta = F::inverse(self.gap(j, n));
@@ -139,10 +148,10 @@ impl<'a, F: Arithmetic> Solver<'a, F> {
 
     // Turns the first sums, as many as are lost, into the lost packets.
     fn solve(&self, sums: &mut [u32], scratch: &mut [u32])
-        requires sums { Packets self.now.code.shape.now (parity_of self.now.code.shape.now) sums.old }
-        requires scratch { length scratch.old ≡ packet_of self.now.code.shape.now }
-        ensures solved { Keeps self.now.code.shape.now F.Arithmetic.prod F.Arithmetic.inv self.now.nodes self.now.losses.now.len (sums_of self.now.code.shape.now F.Arithmetic.prod F.Arithmetic.inv self.now.nodes self.now.losses.now.len) (λ I. I) sums.old sums.new }
-        ensures off { Untouched self.now.code.shape.now F.Arithmetic.prod self.now.losses.now.len sums.old sums.new }
+        requires sums { SumsRun self.now sums.old }
+        requires scratch { Scratch self.now scratch.old }
+        ensures solved { Solves self.now sums.old sums.new }
+        ensures off { Behind self.now sums.old sums.new }
     {
         self.forward(sums, scratch);
         // By number: each step finds packet n and takes it out of the sums before it.
@@ -153,9 +162,9 @@ impl<'a, F: Arithmetic> Solver<'a, F> {
 
     // Adds the packets found, in the first sums, to the sums behind them.
     fn add_found(&self, sums: &mut [u32], scratch: &mut [u32])
-        requires sums { Packets self.now.code.shape.now (parity_of self.now.code.shape.now) sums.old }
-        requires scratch { length scratch.old ≡ packet_of self.now.code.shape.now }
-        ensures { FoundAdded self.now.code.shape.now F.Arithmetic.prod self.now.nodes self.now.losses.now.len self.now.losses.now.len sums.old sums.new }
+        requires sums { SumsRun self.now sums.old }
+        requires scratch { Scratch self.now scratch.old }
+        ensures { AddsFound self.now sums.old sums.new }
     {
         let p = self.code.shape.packet();
         // By number, each by way of scratch: `add_packet` takes the whole run, in which the packets found lie too. Over the sums behind
@@ -169,18 +178,71 @@ impl<'a, F: Arithmetic> Solver<'a, F> {
 
     // Turns the sums of the packets that are not lost into the packets that are; the scratch packet is left with anything.
     pub(crate) fn find(&self, sums: &mut [u32], scratch: &mut [u32]) -> Result<(), Refusal>
-        requires sums { Packets self.now.code.shape.now (parity_of self.now.code.shape.now) sums.old }
-        requires scratch { length scratch.old ≡ packet_of self.now.code.shape.now }
-        ensures { Solved self.now.code.shape.now F.Arithmetic.prod self.now.losses.now sums.old sums.new result }
+        requires sums { SumsRun self.now sums.old }
+        requires scratch { Scratch self.now scratch.old }
+        ensures { Solved (code_in self.now) self.now.losses.now sums.old sums.new result }
     {
         self.solve(sums, scratch);
         self.add_found(sums, scratch);
-        match first_nonzero(self.code.shape, sums, self.count()) {
+        match self.code.first_nonzero(sums, self.count()) {
             None => Ok(()),
             Some((sum, word)) => {
                 clear(sums);
                 Err(Refusal::Contradictory { sum, word })
             }
         }
+    }
+
+    // Adds to the sums the packets of `run`, at the positions from `start` on, that are not lost.
+    pub(crate) fn absorb_held(&self, sums: &mut [u32], run: &[u32], start: usize)
+        requires sums { SumsRun self.now sums.old }
+        requires run { Run (code_in self.now) (packets_in self.now.code.now.shape run.now) run.now }
+        requires end { start + packets_in self.now.code.now.shape run.now
+            ≤ (code_in self.now).positions }
+        ensures { AddsHeld self.now start run.now sums.old sums.new }
+    {
+        for (i, packet) in run.chunks(self.code.shape.packet()).enumerate() {
+            if !self.losses.contains(start + i) {
+                self.code.add_at(sums, start + i, packet);
+            }
+        }
+    }
+
+    // Finds the lost packets of a block: they stand in the first places of the work run afterwards.
+    pub(crate) fn find_lost(&self, block: &[u32], work: &mut [u32]) -> Result<(), Refusal>
+        requires block { BlockRun self.now block.now }
+        requires work { WorkRun self.now work.old }
+        ensures { FoundLost (code_in self.now) self.now.losses.now
+            (block_at (code_in self.now) block.now) work.new result }
+    {
+        let shape = &self.code.shape;
+        clear(work);
+        let (sums, scratch) = work.split_at_mut(shape.parity() * shape.packet());
+        self.absorb_held(sums, block, 0);
+        self.find(sums, scratch)
+    }
+
+    // Writes the packets found to the lost positions of the block.
+    fn write_found(&self, work: &[u32], block: &mut [u32])
+        requires work { WorkRun self.now work.now }
+        requires block { BlockRun self.now block.old }
+        ensures { Written (code_in self.now) self.now.losses.now (lost_count self.now)
+            work.now block.old block.new }
+    {
+        let places = self.losses.positions().iter();
+        for (at, packet) in places.zip(work.chunks(self.code.shape.packet())) {
+            self.code.write_packet(block, *at, packet);
+        }
+    }
+
+    // Restores the lost packets of a block.
+    pub(crate) fn restore(&self, block: &mut [u32], work: &mut [u32]) -> Result<(), Refusal>
+        requires block { BlockRun self.now block.old }
+        requires work { WorkRun self.now work.old }
+        ensures { Restored (code_in self.now) self.now.losses.now block.old block.new result }
+    {
+        self.find_lost(block, work)?;
+        self.write_found(work, block);
+        Ok(())
     }
 }

@@ -1,11 +1,12 @@
 -- Runs of packets that have the same words are the same runs.
-use Rattle.std.proofs.Common.{◌≡◌, ℕ, ◌+◌, ◌*◌, ◌/◌, ◌%◌, ◌<◌, List, ◌++◌, length, get_or, sym, ap, ◌∙◌, add-zero, div-add-mod', arith}
-use native.Mathlib.Decide.{dec_lt}
+use Rattle.std.proofs.Common.{◌≡◌, ℕ, ◌+◌, ◌*◌, ◌/◌, ◌%◌, ◌<◌, List, ◌++◌, length, get_or, sym, ap, ◌∙◌, add-zero, mul-zero, div-add-mod', arith}
+use native.Mathlib.Decide.{ℕ_discrete, dec_lt}
 use Rattle.std.proofs.lemmas.Nat.{mul-le, div_below, div-mul-add, mod_below}
 use Rattle.std.proofs.lemmas.List.{ext_get_or, get_or_past, get_or_append_left}
+use Rattle.algebra.specs.Code.{Code}
 use Rattle.layout.specs.declared.shape.Shape.{Shape}
 use Rattle.layout.specs.Sizes.{packet_of, packets_in, Packets}
-use Rattle.layout.specs.Blocks.{block_at, ZeroRun}
+use Rattle.layout.specs.Blocks.{size_of, Run, block_at, ZeroRun}
 
 module _ (s : Shape) where
   pub packet_pos : 0 < packet_of s
@@ -15,25 +16,34 @@ module _ (s : Shape) where
   pub packets_are : (n : ℕ) (run : List ℕ) → Packets s n run → packets_in s run ≡ n
   packets_are n run e = ap (λ k. k / packet_of s) e ∙ ap (λ k. k / packet_of s) (sym (add-zero _)) ∙ div-mul-add n (packet_of s) 0 packet_pos
 
+-- packets that are not empty
+module _ (C : Code) (some : 0 < size_of C) where
+  words_pos : 0 < C.words
+  words_pos = elim (ℕ_discrete C.words 0) [
+    | yes e ↦ absurd (let z : C.rows * C.words ≡ 0 = ap (λ w. C.rows * w) e ∙ mul-zero C.rows in omega arith)
+    | no e ↦ omega arith
+  ]
+
   -- the place of a word of a packet, and back
-  pub row_lt : (j : ℕ) → j < packet_of s → j / s.words < s.rows
-  row_lt j h = div_below j s.words s.rows s.sizes.2 h
+  pub row_lt : (j : ℕ) → j < size_of C → j / C.words < C.rows
+  row_lt j h = div_below j C.words C.rows words_pos h
 
-  pub column_lt : (j : ℕ) → j % s.words < s.words
-  column_lt j = mod_below j s.words s.sizes.2
+  pub column_lt : (j : ℕ) → j % C.words < C.words
+  column_lt j = mod_below j C.words words_pos
 
-  pub place : (j : ℕ) → j / s.words * s.words + j % s.words ≡ j
-  place j = div-add-mod' j s.words
+  pub place : (j : ℕ) → j / C.words * C.words + j % C.words ≡ j
+  place j = div-add-mod' j C.words
 
-  pub same_runs : (n : ℕ) (xs ys : List ℕ) → Packets s n xs → Packets s n ys
-      → ((q i c : ℕ) → q < n → i < s.rows → c < s.words → block_at s xs q i c ≡ block_at s ys q i c) → xs ≡ ys
+  pub same_runs : (n : ℕ) (xs ys : List ℕ) → Run C n xs → Run C n ys
+      → ((q i c : ℕ) → q < n → i < C.rows → c < C.words → block_at C xs q i c ≡ block_at C ys q i c) → xs ≡ ys
   same_runs n xs ys lx ly e = ext_get_or 0 xs ys (lx ∙ sym ly) (λ k h.
-      let q = k / packet_of s in
-      let j = k % packet_of s in
-      let lt : j < packet_of s = mod_below k (packet_of s) packet_pos in
-      let at : q * packet_of s + (j / s.words * s.words + j % s.words) ≡ k = ap (λ m. q * packet_of s + m) (place j) ∙ div-add-mod' k (packet_of s) in
+      let p = size_of C in
+      let q = k / p in
+      let j = k % p in
+      let lt : j < p = mod_below k p some in
+      let at : q * p + (j / C.words * C.words + j % C.words) ≡ k = ap (λ m. q * p + m) (place j) ∙ div-add-mod' k p in
       ap (λ m. get_or xs m 0) (sym at)
-      ∙ e q (j / s.words) (j % s.words) (div_below k (packet_of s) n packet_pos (omega arith)) (row_lt j lt) (column_lt j)
+      ∙ e q (j / C.words) (j % C.words) (div_below k p n some (omega arith)) (row_lt j lt) (column_lt j)
       ∙ ap (λ m. get_or ys m 0) at)
 
 -- the front of a run of zeros

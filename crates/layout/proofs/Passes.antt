@@ -1,12 +1,13 @@
 -- What the checks say where they pass.
 use Rattle.std.proofs.Common.{◌≡◌, ℕ, zero, suc, ◌+◌, ◌*◌, ◌<◌, ◌≤◌, Bool, true, false, cond, ◌&&◌, eqb, ltb, leb, List, [], ◌∷◌, length, Some, None, Option, sym, refl, ap, ◌∙◌, add-one, arith}
 use native.Mathlib.Decide.{ℕ_discrete, dec_lt}
+use Rattle.refusal.specs.declared.Refusal.TheVariants.{BadLosses, OtherWidth, TooFew, WrongRun}
 use Rattle.algebra.proofs.Marks.{true_false}
 use Rattle.layout.specs.declared.shape.Shape.{Shape}
 use Rattle.layout.specs.declared.losses.LossList.{LossList}
 use Rattle.layout.specs.Sizes.{parity_of, packet_of, Packets, lost, LostBelow}
 use Rattle.layout.specs.Checks.{width_refusal, run_refusal, all_below, loss_refusal}
-use Rattle.refusal.specs.Numbers.{or_else}
+use Rattle.refusal.specs.Numbers.{said, or_else}
 
 pub below_none : (p : ℕ → ℕ) (end : ℕ) → all_below p 0 end ≡ true
 unfolding all_below
@@ -46,7 +47,7 @@ test_passes true e h = refl
 test_passes false e h = absurd (let z : ◌≡◌ {A = ℕ} 0 1 = cc in omega arith)
 
 pub run_passes : (s : Shape) (packets : ℕ) (run : List ℕ) (place : ℕ) → run_refusal s packets run place ≡ None → Packets s packets run
-run_passes s packets run place e = let b = test_passes (eqb (length run) (packets * packet_of s)) (5, place ∷ []) e in grind arith
+run_passes s packets run place e = let b = test_passes (eqb (length run) (packets * packet_of s)) (said (WrongRun place)) e in grind arith
 
 pub losses_pass : (s : Shape) (l : LossList) → loss_refusal s l ≡ None → LostBelow l s.positions × (l.len ≤ parity_of s)
 losses_pass s l e = (
@@ -54,7 +55,7 @@ losses_pass s l e = (
   let b = (tests (all_below (lost l) l.len s.positions) (leb l.len (parity_of s)) e).1 in grind arith,
 )
   where
-    tests : (a b : Bool) → ◌≡◌ {A = Option (ℕ × List ℕ)} (cond a (cond b None (Some (7, []))) (Some (6, []))) None → (a ≡ true) × (b ≡ true)
+    tests : (a b : Bool) → ◌≡◌ {A = Option (ℕ × List ℕ)} (cond a (cond b None (Some (said TooFew))) (Some (said BadLosses))) None → (a ≡ true) × (b ≡ true)
     tests true true h = (refl, refl)
     tests true false h = absurd (let z : ◌≡◌ {A = ℕ} 0 1 = cc in omega arith)
     tests false b h = absurd (let z : ◌≡◌ {A = ℕ} 0 1 = cc in omega arith)
@@ -62,27 +63,27 @@ losses_pass s l e = (
 -- the checks pass where they should
 
 pub width_ok : (bits : ℕ) (s : Shape) → s.rows ≡ bits → width_refusal bits s ≡ None
-width_ok bits s e = let b : eqb s.rows bits ≡ true = grind arith in ap (λ t. cond t None (Some (1, []))) b
+width_ok bits s e = let b : eqb s.rows bits ≡ true = grind arith in ap (λ t. cond t None (Some (said OtherWidth))) b
 
 pub run_ok : (s : Shape) (packets : ℕ) (run : List ℕ) (place : ℕ) → Packets s packets run → run_refusal s packets run place ≡ None
-run_ok s packets run place e = let b : eqb (length run) (packets * packet_of s) ≡ true = grind arith in ap (λ t. cond t None (Some (5, place ∷ []))) b
+run_ok s packets run place e = let b : eqb (length run) (packets * packet_of s) ≡ true = grind arith in ap (λ t. cond t None (Some (said (WrongRun place)))) b
 
 pub losses_ok : (s : Shape) (l : LossList) → LostBelow l s.positions → l.len ≤ parity_of s → loss_refusal s l ≡ None
 losses_ok s l below few =
     let b : leb l.len (parity_of s) ≡ true = grind arith in
-    ap (λ t. cond t (cond (leb l.len (parity_of s)) None (Some (7, []))) (Some (6, []))) (below_all (lost l) l.len s.positions below)
-    ∙ ap (λ t. cond t None (Some (7, []))) b
+    ap (λ t. cond t (cond (leb l.len (parity_of s)) None (Some (said TooFew))) (Some (said BadLosses))) (below_all (lost l) l.len s.positions below)
+    ∙ ap (λ t. cond t None (Some (said TooFew))) b
 
 -- and refuse where they should
 
-pub losses_outside : (s : Shape) (l : LossList) (k : ℕ) → k < l.len → s.positions ≤ lost l k → loss_refusal s l ≡ Some (6, [])
-losses_outside s l k lt past = ap (λ t. cond t (cond (leb l.len (parity_of s)) None (Some (7, []))) (Some (6, []))) (not_below (lost l) l.len k s.positions lt past)
+pub losses_outside : (s : Shape) (l : LossList) (k : ℕ) → k < l.len → s.positions ≤ lost l k → loss_refusal s l ≡ Some (said BadLosses)
+losses_outside s l k lt past = ap (λ t. cond t (cond (leb l.len (parity_of s)) None (Some (said TooFew))) (Some (said BadLosses))) (not_below (lost l) l.len k s.positions lt past)
 
-pub losses_many : (s : Shape) (l : LossList) → LostBelow l s.positions → parity_of s < l.len → loss_refusal s l ≡ Some (7, [])
+pub losses_many : (s : Shape) (l : LossList) → LostBelow l s.positions → parity_of s < l.len → loss_refusal s l ≡ Some (said TooFew)
 losses_many s l below many =
     let b : leb l.len (parity_of s) ≡ false = grind arith in
-    ap (λ t. cond t (cond (leb l.len (parity_of s)) None (Some (7, []))) (Some (6, []))) (below_all (lost l) l.len s.positions below)
-    ∙ ap (λ t. cond t None (Some (7, []))) b
+    ap (λ t. cond t (cond (leb l.len (parity_of s)) None (Some (said TooFew))) (Some (said BadLosses))) (below_all (lost l) l.len s.positions below)
+    ∙ ap (λ t. cond t None (Some (said TooFew))) b
 
 -- a check that passes did not refuse
 pub passed : {A : Type 0} (a : Option (ℕ × List ℕ)) (e : ℕ × List ℕ) → a ≡ None → Some e ≡ a → A

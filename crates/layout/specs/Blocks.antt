@@ -1,8 +1,8 @@
 -- The packets of a run, and the code of a shape.
-use Rattle.std.specs.Prelude.{◌≡◌, ℕ, ◌+◌, ◌*◌, List, slice_index}
+use Rattle.std.specs.Prelude.{◌≡◌, ℕ, ◌+◌, ◌*◌, List, length, slice_index}
 use Rattle.algebra.specs.Code.{Code, Packet, Block}
 use Rattle.layout.specs.declared.shape.Shape.{Shape}
-use Rattle.layout.specs.Sizes.{parity_of, packet_of}
+use Rattle.layout.specs.Sizes.{parity_of}
 
 -- the code of a shape, over a product
 abbrev pub code_of : Shape → (ℕ → ℕ → ℕ) → Code
@@ -12,9 +12,17 @@ code_of s prod = record { rows = s.rows; words = s.words; positions = s.position
 abbrev pub packet_in : ℕ → List ℕ → Packet
 packet_in w run i c = slice_index run (i * w + c)
 
--- a run of packets: position q lies at words q·m·w up to (q + 1)·m·w
-abbrev pub block_at : Shape → List ℕ → Block
-block_at s run q i c = slice_index run (q * packet_of s + (i * s.words + c))
+-- the words of a packet
+abbrev pub size_of : Code → ℕ
+size_of C = C.rows * C.words
+
+-- a run of just so many packets
+abbrev pub Run : Code → ℕ → List ℕ → Type 0
+Run C count run = length run ≡ count * size_of C
+
+-- a run of packets, one after another, as a block: position q lies at words q·m·w up to (q + 1)·m·w
+abbrev pub block_at : Code → List ℕ → Block
+block_at C run q i c = slice_index run (q * size_of C + (i * C.words + c))
 
 -- a run of zeros
 abbrev pub ZeroRun : List ℕ → Type 0

@@ -1,16 +1,18 @@
 -- What block calls check before they do their work.
 use Rattle.std.specs.Prelude.{ℕ, zero, suc, ◌*◌, Bool, true, cond, ◌&&◌, List, [], ◌∷◌, length, Some, None, Option, ◌==◌, nat_le, nat_lt}
+use Rattle.refusal.specs.declared.Refusal.TheVariants.{BadLosses, OtherWidth, TooFew, WrongRun}
+use Rattle.refusal.specs.Numbers.{said}
 use Rattle.layout.specs.declared.shape.Shape.{Shape}
 use Rattle.layout.specs.declared.losses.LossList.{LossList}
 use Rattle.layout.specs.Sizes.{parity_of, packet_of, lost}
 
 -- refusal 1, unless the rows of the shape are the width of the arithmetic
 abbrev pub width_refusal : ℕ → Shape → Option (ℕ × List ℕ)
-width_refusal bits s = cond (s.rows == bits) None (Some (1, []))
+width_refusal bits s = cond (s.rows == bits) None (Some (said OtherWidth))
 
 -- refusal 5 with the place of a run, unless the run has just so many packets
 abbrev pub run_refusal : Shape → ℕ → List ℕ → ℕ → Option (ℕ × List ℕ)
-run_refusal s packets run place = cond (length run == packets * packet_of s) None (Some (5, place ∷ []))
+run_refusal s packets run place = cond (length run == packets * packet_of s) None (Some (said (WrongRun place)))
 
 -- the first t positions are below an end
 unfoldable pub all_below : (ℕ → ℕ) → ℕ → ℕ → Bool
@@ -19,4 +21,4 @@ all_below p (suc t) end = nat_lt (p t) end && all_below p t end
 
 -- refusal 6 unless every lost position is in the block, then refusal 7 if too many are lost
 abbrev pub loss_refusal : Shape → LossList → Option (ℕ × List ℕ)
-loss_refusal s l = cond (all_below (lost l) l.len s.positions) (cond (nat_le l.len (parity_of s)) None (Some (7, []))) (Some (6, []))
+loss_refusal s l = cond (all_below (lost l) l.len s.positions) (cond (nat_le l.len (parity_of s)) None (Some (said TooFew))) (Some (said BadLosses))

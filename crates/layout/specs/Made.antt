@@ -1,5 +1,6 @@
 -- What the makers of shapes and loss lists answer.
 use Rattle.std.specs.Prelude.{◌≡◌, ℕ, ◌+◌, ◌-◌, ◌^◌, ◌<◌, ◌≤◌, cond, ◌&&◌, ◌⊎◌, List, [], ◌∷◌, ◌++◌, length, take, Some, None, Ok, Err, Option, Result, ◌==◌, nat_le, nat_lt}
+use Rattle.refusal.specs.declared.Refusal.TheVariants.{BadCounts, BadLosses, BadSize, OtherWidth, TooFew, TooLong}
 use Rattle.refusal.specs.declared.Refusal.{Refusal}
 use Rattle.refusal.specs.Numbers.{said}
 use Rattle.layout.specs.declared.shape.Dimensions.{Dimensions}
@@ -18,10 +19,10 @@ shape_refusal width d =
     cond (d.rows == width)
     (cond (nat_le 1 d.sources && (nat_lt d.sources d.positions && nat_le (d.positions - d.sources) 32))
     (cond (nat_le d.positions (2 ^ d.rows - 1))
-    (cond (nat_le 1 d.blocks && (nat_le d.blocks 64 && (nat_le 1 d.words && nat_le d.words 16))) None (Some (4, [])))
-    (Some (3, [])))
-    (Some (2, [])))
-    (Some (1, []))
+    (cond (nat_le 1 d.blocks && (nat_le d.blocks 64 && (nat_le 1 d.words && nat_le d.words 16))) None (Some (said BadSize)))
+    (Some (said TooLong)))
+    (Some (said BadCounts)))
+    (Some (said OtherWidth))
 
 -- a shape that is made has just these dimensions
 abbrev pub ShapeMade : Dimensions → Result Shape Refusal → Type 0
@@ -41,7 +42,7 @@ pub record Listed (s : Shape) (xs : List ℕ) (l : LossList) : Type 0 where
 -- the refusal of a list of positions
 abbrev pub LossesRefused : Shape → List ℕ → ℕ × List ℕ → Type 0
 LossesRefused s xs e =
-    ((InOrder xs s.positions → ⊥) × (e ≡ (6, []))) ⊎ (InOrder xs s.positions × (s.positions - s.sources < length xs) × (e ≡ (7, [])))
+    ((InOrder xs s.positions → ⊥) × (e ≡ said BadLosses)) ⊎ (InOrder xs s.positions × (s.positions - s.sources < length xs) × (e ≡ said TooFew))
 
 abbrev pub LossesMade : Shape → List ℕ → Result LossList Refusal → Type 0
 LossesMade s xs (Ok l) = Listed s xs l
@@ -54,7 +55,7 @@ Follows l position end = (position < end) × ((s : ℕ) → s < l.len → lost l
 -- the refusal of one position more
 abbrev pub PushRefused : Shape → LossList → ℕ → ℕ × List ℕ → Type 0
 PushRefused s l position e =
-    ((Follows l position s.positions → ⊥) × (e ≡ (6, []))) ⊎ (Follows l position s.positions × (s.positions - s.sources ≤ l.len) × (e ≡ (7, [])))
+    ((Follows l position s.positions → ⊥) × (e ≡ said BadLosses)) ⊎ (Follows l position s.positions × (s.positions - s.sources ≤ l.len) × (e ≡ said TooFew))
 
 -- the position stands behind the others
 pub record Added (s : Shape) (before : LossList) (position : ℕ) (after : LossList) : Type 0 where

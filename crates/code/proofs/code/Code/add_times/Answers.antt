@@ -10,7 +10,7 @@ pub returns : goal.returns
 unfolding scaled
 returns g c = λ i k h l.
     let f = g.F.Arithmetic in
-    let s = c.args.self.now.shape.now in
+    let s = c.args.self.now.shape in
     let a = c.args.a % 2 ^ f.bits in
     c.add_product.ensures i k h l
     ∙ ap (bit_xor (packet_in s.words c.args.target.now i k))

@@ -1,17 +1,18 @@
 use Rattle.std.proofs.Common.{◌≡◌, ◌+◌, [], ◌∷◌, length, sym, refl, ap, ◌∙◌, subst, arith, length-append}
 use Rattle.layout.specs.Sizes.{packet_of, packets_in, lost}
-use Rattle.layout.specs.Blocks.{packet_in}
+use Rattle.layout.specs.Blocks.{packet_in, code_of}
 use Rattle.layout.proofs.Entries.{entry_read}
 use Rattle.layout.proofs.Blocks.{packet_pos}
 use Rattle.algebra.specs.Code.{among}
-use Rattle.code.specs.Sums.{Gained}
+use Rattle.code.specs.Sums.{Shared}
 use Rattle.code.proofs.Chunks.{chunk_turn, chunks_done}
 use Rattle.code.proofs.Held.{summed_lost, summed_held}
 use Rattle.code.proofs.solver.Solver.absorb_held.Goals as goal
 
 pub loop-i-preserved : goal.loop-i-preserved
 loop-i-preserved g c =
-    let s = c.args.self.now.code.shape.now in
+    let s = c.args.self.now.code.now.shape in
+    let C = code_of s g.F.Arithmetic.prod in
     let l = c.args.self.now.losses.now in
     let run = c.args.run.now in
     let n = length c.loop-i.yielded in
@@ -24,13 +25,13 @@ loop-i-preserved g c =
       within = let lt = turn.lt in omega arith;
       size = step.0 ∙ v.size;
       packets = turn.left;
-      summed = summed_lost s g.F.Arithmetic.prod l c.args.start n run c.args.sums.now c.loop-i.sums v.summed
+      summed = summed_lost C l c.args.start n run c.args.sums.now c.loop-i.sums v.summed
           (ap (λ k. among (lost l) l.len (c.args.start + k)) here ∙ sym c.contains.ensures ∙ c.if-not-contains.false);
     }
 
-pub absorb-requires : goal.absorb-requires
-absorb-requires g c =
-    let s = c.args.self.now.code.shape.now in
+pub add_at-requires : goal.add_at-requires
+add_at-requires g c =
+    let s = c.args.self.now.code.now.shape in
     let run = c.args.run.now in
     let v = c.loop-i.invariant in
     let (step, number, _, _) = c.in-Some.ensures.steps in
@@ -44,7 +45,8 @@ absorb-requires g c =
 pub loop-i-preserved-then-not-contains : goal.loop-i-preserved-then-not-contains
 loop-i-preserved-then-not-contains g c =
     let prod = g.F.Arithmetic.prod in
-    let s = c.args.self.now.code.shape.now in
+    let s = c.args.self.now.code.now.shape in
+    let C = code_of s g.F.Arithmetic.prod in
     let l = c.args.self.now.losses.now in
     let run = c.args.run.now in
     let n = length c.loop-i.yielded in
@@ -58,15 +60,15 @@ loop-i-preserved-then-not-contains g c =
       within = let lt = turn.lt in omega arith;
       size = step.0 ∙ v.size;
       packets = turn.left;
-      summed = summed_held s prod l c.args.start n run c.args.sums.now c.loop-i.sums v.summed p c.absorb.new.sums
+      summed = summed_held C l c.args.start n run c.args.sums.now c.loop-i.sums v.summed p c.add_at.new.sums
           (ap (λ k. among (lost l) l.len (c.args.start + k)) here ∙ sym c.contains.ensures ∙ c.if-not-contains.true)
-          (λ i k h m. ap (λ z. packet_in s.words z i k) turn.is ∙ entry_read s n (packet_of s) run refl i k h m)
-          (subst (λ k. Gained s prod (c.args.start + k) p c.loop-i.sums c.absorb.new.sums) (sym here) c.absorb.ensures);
+          (λ i k h m. ap (λ z. packet_in s.words z i k) turn.is ∙ entry_read C n (packet_of s) run refl i k h m)
+          (subst (λ k. Shared C (c.args.start + k) p c.loop-i.sums c.add_at.new.sums) (sym here) c.add_at.ensures);
     }
 
 pub returns : goal.returns
 returns g c =
-    let s = c.args.self.now.code.shape.now in
+    let s = c.args.self.now.code.now.shape in
     let run = c.args.run.now in
     let v = c.loop-i.invariant in
     let (step, _) = c.in-None.ensures.steps in

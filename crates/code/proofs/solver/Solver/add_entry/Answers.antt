@@ -16,7 +16,7 @@ slice_bounds-add_times-end g c = let h = part_ends c.args.to _ c.packet-p.result
 
 pub returns : goal.returns
 returns g c =
-    let s = c.args.self.now.code.shape.now in
+    let s = c.args.self.now.code.now.shape in
     let C = code_of s g.F.Arithmetic.prod in
     let v = c.packet-p.result in
     let t = c.args.sums.now in
@@ -28,8 +28,8 @@ returns g c =
     let long = part_length t to v fits in
     let copied = c.copy_from_slice.ensures.after in
     record {
-      at = λ i k h l. entry_written s to v t size _ c.add_times.new.target (omega arith) fits (omega arith) i k h l ∙ c.add_times.ensures i k h l
-          ∙ ap₂ bit_xor (entry_read s to v t size i k h l)
-          (ap (λ u. scaled C a (packet_in s.words u) i k) copied ∙ scaled_same C a _ (block_at s t from) (entry_read s from v t size) i k l);
-      off = λ μ _ q i k h l. entry_kept s to v t size _ c.add_times.new.target (omega arith) fits (omega arith) μ q i k h l;
+      at = λ i k h l. entry_written C to v t size _ c.add_times.new.target (omega arith) fits (omega arith) i k h l ∙ c.add_times.ensures i k h l
+          ∙ ap₂ bit_xor (entry_read C to v t size i k h l)
+          (ap (λ u. scaled C a (packet_in s.words u) i k) copied ∙ scaled_same C a _ (block_at C t from) (entry_read C from v t size) i k l);
+      off = λ μ _ q i k h l. entry_kept C to v t size _ c.add_times.new.target (omega arith) fits (omega arith) μ q i k h l;
     }

@@ -19,8 +19,8 @@ loop-node-preserved g c =
     let j = c.args.j in
     let k = c.loop-node.node-index in
     let y = x c.args.n in
-    let ox : (k : ℕ) → x k < 2 ^ f.bits = λ k. rw (← c.args.self.now.code.width) (c.args.self.now.solvable.elements k) in
-    let whole = mid_length nodes j c.args.n (omega arith) (let w = c.requires.within in let m = c.args.self.now.solvable.few in let k = c.args.self.now.code.shape.now.counts.2 in omega arith) in
+    let ox : (k : ℕ) → x k < 2 ^ f.bits = λ k. rw (← c.args.self.now.code.now.width) (c.args.self.now.solvable.elements k) in
+    let whole = mid_length nodes j c.args.n (omega arith) (let w = c.requires.within in let m = c.args.self.now.solvable.few in let k = c.args.self.now.code.now.shape.counts.2 in omega arith) in
     let here : get_or (mid_of j (c.args.n - j) nodes) k 0 ≡ x (j + k) = get_or-take (c.args.n - j) _ k 0 (omega arith) ∙ get_or-drop j nodes k 0 in
     let lt : c.loop-node.product < 2 ^ f.bits = rw c.loop-node.invariant (gap_lt laws x ox j k y (ox c.args.n)) in
     c.product-product.ensures
@@ -31,5 +31,5 @@ pub returns-clause-element : goal.returns-clause-element
 returns-clause-element g c =
     let f = g.F.Arithmetic in
     let x = node_at c.args.self.now.nodes in
-    let ox : (k : ℕ) → x k < 2 ^ f.bits = λ k. rw (← c.args.self.now.code.width) (c.args.self.now.solvable.elements k) in
+    let ox : (k : ℕ) → x k < 2 ^ f.bits = λ k. rw (← c.args.self.now.code.now.width) (c.args.self.now.solvable.elements k) in
     rw c.loop-node.invariant (gap_lt g.met.F.Arithmetic.field x ox c.args.j c.loop-node.node-index (x c.args.n) (ox c.args.n))

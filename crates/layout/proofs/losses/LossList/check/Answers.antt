@@ -11,13 +11,13 @@ returns-then-any c =
     let outside = cases_from_any _ _ _ (λ x. c.args.shape.now.positions ≤ x) (λ x. x < c.args.shape.now.positions) c.any.ensures.ran (YieldsList-from_slice c.positions.result.now cc) (λ x q k. search (rules, tests)) (λ x q k. search (rules, tests)) in
     let (k, h, f) = rw c.if-any.true at outside in
     let lt : k < c.args.self.now.len = let e = c.positions.ensures.len in omega arith in
-    sym (losses_outside c.args.shape.now c.args.self.now k lt (let e = c.positions.ensures.places k lt in let g = f 0 in omega arith))
+    sym (losses_outside c.args.shape.now c.args.self.now k lt (let e = c.positions.ensures.at k lt in let g = f 0 in omega arith))
 
 below : (c : Else-any) → LostBelow c.args.self.now c.args.shape.now.positions
 below c s h =
     let inside = cases_from_any _ _ _ (λ x. c.args.shape.now.positions ≤ x) (λ x. x < c.args.shape.now.positions) c.any.ensures.ran (YieldsList-from_slice c.positions.result.now cc) (λ x q k. search (rules, tests)) (λ x q k. search (rules, tests)) in
     let f = (rw c.if-any.false at inside) s 0 (omega arith) (let e = c.positions.ensures.len in omega arith) in
-    let e = c.positions.ensures.places s h in
+    let e = c.positions.ensures.at s h in
     omega arith
 
 pub returns-then-positions-parity : goal.returns-then-positions-parity

@@ -8,5 +8,5 @@ pub returns : goal.returns
 returns c =
     let p = lost c.args.self.now in
     let len = c.positions.ensures.len in
-    among_by_any p c.positions.result.now c.args.position c.contains.result (λ s h. c.positions.ensures.places s (omega arith)) c.contains.ensures.cases
+    among_by_any p c.positions.result.now c.args.position c.contains.result (λ s h. c.positions.ensures.at s (omega arith)) c.contains.ensures.cases
     ∙ ap (λ n. among p n c.args.position) len

@@ -10,11 +10,11 @@ returns c =
     let l = c.args.self.now in
     let p = c.positions-else-position-positions in
     let len = p.ensures.len in
-    let asc : Ascends p.result.now (length p.result.now) = λ i j lt le. rw (p.ensures.places i (omega arith), p.ensures.places j (omega arith)) (l.ascends i j lt (omega arith)) in
+    let asc : Ascends p.result.now (length p.result.now) = λ i j lt le. rw (p.ensures.at i (omega arith), p.ensures.at j (omega arith)) (l.ascends i j lt (omega arith)) in
     let below = all_below_last p.result.now c.last.result c.args.position _ _ asc c.last.ensures.item.3 c.is_some_and.ensures (λ x k. search (rules, tests)) in
     let room : l.len < length l.at = let few = l.few in let k = c.args.shape.now.counts.2 in omega arith in
     record {
-      follows = (omega arith, λ s h. rw (sym (p.ensures.places s h)) (below s (omega arith)));
+      follows = (omega arith, λ s h. rw (sym (p.ensures.at s h)) (below s (omega arith)));
       room = omega arith;
       positions = take-set_at l.at l.len (l.len + 1) c.args.position refl room;
       len = refl;

@@ -3,7 +3,7 @@ use borrow.Author.Tests.{tests}
 use Rattle.std.proofs.lemmas.Iterator.{cases_from_all, YieldsList-from_slice}
 use Rattle.std.proofs.lemmas.List.Sorted.{answers_always}
 use Rattle.layout.proofs.Positions.{ordered_by_steps}
-use Rattle.layout.proofs.losses.make.ordered.Goals as goal
+use Rattle.layout.proofs.losses.ordered.Goals as goal
 
 pub returns-then-all : goal.returns-then-all
 returns-then-all c =
