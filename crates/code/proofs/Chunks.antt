@@ -3,8 +3,6 @@ use Rattle.std.proofs.Common.{◌≡◌, ℕ, ◌+◌, ◌-◌, ◌*◌, ◌<◌
 use Rattle.std.specs.List.{between}
 use Rattle.std.proofs.lemmas.Bool.{cases_lt}
 use Rattle.std.proofs.lemmas.List.{take_at, drop_at, drop-drop, get_or-drop}
-use Rattle.layout.specs.Blocks.{size_of, Run}
-use Rattle.algebra.specs.Code.{Code}
 use Rattle.layout.specs.declared.losses.LossList.{LossList}
 use Rattle.layout.specs.Sizes.{lost}
 use Rattle.layout.specs.Made.{lost_at}
@@ -60,19 +58,19 @@ chunks_done p run m n some size le none = elim (cases_lt n m) [
 ]
 
 -- lost position number n, q, and packet number n, x, of a run of m packets come from the two iterators together
-pub record LostTurn (C : Code) (l : LossList) (run : List ℕ) (m n q : ℕ) (x left right : List ℕ) : Type 0 where
+pub record LostTurn (p : ℕ) (l : LossList) (run : List ℕ) (m n q : ℕ) (x left right : List ℕ) : Type 0 where
   pub listed : n < l.len
   pub at : q ≡ lost l n
   pub places : left ≡ drop (n + 1) (lost_at l)
-  pub packet : ChunkTurn (size_of C) run m n x right
+  pub packet : ChunkTurn p run m n x right
 
-module _ (C : Code) (some : 0 < size_of C) (l : LossList) (run : List ℕ) (m n : ℕ) (long : Run C m run) (xs : List ℕ) (are : xs ≡ lost_at l) (len : length xs ≡ l.len) where
+module _ (p : ℕ) (some : 0 < p) (l : LossList) (run : List ℕ) (m n : ℕ) (long : length run ≡ m * p) (xs : List ℕ) (are : xs ≡ lost_at l) (len : length xs ≡ l.len) where
   lost_length : length (lost_at l) ≡ l.len
   lost_length = sym (ap length are) ∙ len
 
   pub lost_turn : ((k : ℕ) → k < l.len → get_or xs k 0 ≡ lost l k) → (q size : ℕ) (left left' right x right' : List ℕ) → left ≡ drop n (lost_at l) → left ≡ q ∷ left'
-      → size ≡ size_of C → right ≡ drop (n * size_of C) run → (right ≡ x ++ right') × (length x ≡ min size (length right)) × (0 < length right)
-      → LostTurn C l run m n q x left' right'
+      → size ≡ p → right ≡ drop (n * p) run → (right ≡ x ++ right') × (length x ≡ min size (length right)) × (0 < length right)
+      → LostTurn p l run m n q x left' right'
   lost_turn places q size left left' right x right' here item same there step =
       let place = item_turn (lost_at l) n q left left' here item in
       let lt = place.lt in
@@ -82,10 +80,10 @@ module _ (C : Code) (some : 0 < size_of C) (l : LossList) (run : List ℕ) (m n 
         listed = listed;
         at = place.is ∙ sym (ap (λ z. get_or z n 0) are) ∙ places n listed;
         places = place.left;
-        packet = chunk_turn (size_of C) run m n size right x right' some long same there step;
+        packet = chunk_turn p run m n size right x right' some long same there step;
       }
 
   -- one of the two has no more
-  pub lost_done : (left right : List ℕ) → left ≡ drop n (lost_at l) → right ≡ drop (n * size_of C) run → n ≤ l.len → l.len ≤ m → (length left ≡ 0) ⊎ (length right ≡ 0) → n ≡ l.len
+  pub lost_done : (left right : List ℕ) → left ≡ drop n (lost_at l) → right ≡ drop (n * p) run → n ≤ l.len → l.len ≤ m → (length left ≡ 0) ⊎ (length right ≡ 0) → n ≡ l.len
   lost_done left right here there le few (inl none) = let e = sym (length-drop n (lost_at l)) ∙ ap length (sym here) ∙ none in let whole = lost_length in omega arith
-  lost_done left right here there le few (inr none) = let e = chunks_done (size_of C) run m n some long (omega arith) (ap length (sym there) ∙ none) in omega arith
+  lost_done left right here there le few (inr none) = let e = chunks_done p run m n some long (omega arith) (ap length (sym there) ∙ none) in omega arith

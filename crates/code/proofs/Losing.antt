@@ -1,7 +1,9 @@
 -- What rebuild makes of the sums of a block: the lost packets of the codewords that agree with it, or none.
-use Rattle.std.proofs.Common.{◌≡◌, ℕ, ◌+◌, ◌*◌, ◌<◌, ◌≤◌, false, List, ◌++◌, Ok, Err, Result, sym, ap, ◌∙◌, subst, inl, inr, arith}
+use Rattle.std.proofs.Common.{None, Option, refl, ◌≡◌, ℕ, ◌+◌, ◌*◌, ◌<◌, ◌≤◌, false, List, ◌++◌, Ok, Err, Result, sym, ap, ◌∙◌, subst, inl, inr, arith}
+use Rattle.std.specs.Prelude.{IfOk}
 use lib.Bits.{bit_xor}
 use Rattle.refusal.specs.declared.Refusal.{Refusal}
+use Rattle.refusal.specs.Numbers.{said}
 use Rattle.algebra.specs.Code.{Code, Block, SamePacket, ZeroPacket, SameBlock, syndrome, among}
 use Rattle.algebra.proofs.Marks.{two, among_find}
 use Rattle.algebra.proofs.Words.{xors_ext, scaled_same}
@@ -9,10 +11,12 @@ use Rattle.algebra.proofs.Lost.{syndrome_split, put, put_at, put_off}
 use Rattle.layout.specs.declared.losses.LossList.{LossList}
 use Rattle.layout.specs.Sizes.{lost, LostBelow}
 use Rattle.layout.specs.Blocks.{block_at, Run, size_of}
+use Rattle.layout.specs.Checks.{CheckedFirst}
+use Rattle.layout.proofs.Passes.{passed}
 use Rattle.layout.proofs.Blocks.{row_lt, column_lt, place}
 use Rattle.code.specs.Sums.{SumsTo}
 use Rattle.code.specs.Rebuilt.{lost_sum, Rebuilt, Unmatched, Solved}
-use Rattle.code.specs.Lost.{AgreeOff, Contradicted, LostPackets, FoundLost}
+use Rattle.code.specs.Lost.{Contradicts, AgreeOff, Contradicted, LostPackets, FoundLost}
 use Rattle.code.proofs.Rebuilds.{xor_equal, equal_xor}
 use Rattle.code.proofs.Joined.{joined_low}
 
@@ -84,10 +88,17 @@ module _ (C : Code) (l : LossList) (below : LostBelow l C.positions) (few : l.le
         here = nonzero;
       }
 
-  -- what the solver makes of the sums
+  -- what a rebuild that passes its checks makes of the sums
+  pub found_rebuilt : 0 < size_of C → (check : Option (ℕ × List ℕ)) → check ≡ None → (sums' : List ℕ) (r : Result (Unit {0}) Refusal)
+      → IfOk r (λ u. Rebuilt C l sums sums') → CheckedFirst check (Contradicts (Unmatched C l sums)) r → FoundLost C l b sums' r
+  found_rebuilt some check pass sums' (Ok u) a n = lost_packets sums' a
+  found_rebuilt some check pass sums' (Err e) a (inl n) = passed check (said e) pass (sym n)
+  found_rebuilt some check pass sums' (Err e) a (inr (z, n)) = record { sum = n.sum; word = n.word; refusal = n.refusal; fact = contradicted some _ _ n.fact }
+
+  -- and the solver
   pub found_solved : 0 < size_of C → (sums' : List ℕ) (r : Result (Unit {0}) Refusal) → Solved C l sums sums' r → FoundLost C l b sums' r
   found_solved some sums' (Ok u) a = lost_packets sums' a
-  found_solved some sums' (Err e) (a, z) = record { sum = a.sum; word = a.word; refusal = a.refusal; fact = contradicted some _ _ a.fact }
+  found_solved some sums' (Err e) a = found_rebuilt some None refl sums' (Err e) tt (inr (refl, a.0))
 
 -- what begins with the packets found still does with words behind them
 pub found_joined : (C : Code) (l : LossList) → l.len ≤ C.parity → (b : Block) (sums scratch : List ℕ) → Run C C.parity sums

@@ -1,31 +1,14 @@
 -- What encode, check and repair do, in the words of the code.
-use Rattle.std.specs.Prelude.{◌≡◌, ℕ, ◌+◌, Bool, true, false, ◌⊎◌, List, ◌++◌, Some, None, Ok, Err, Option, Result}
+use Rattle.std.specs.Prelude.{◌≡◌, ℕ, ◌+◌, Bool, true, false, List, ◌++◌, Ok, Err, Option, Result}
 use Rattle.refusal.specs.declared.Refusal.{Refusal}
-use Rattle.refusal.specs.Numbers.{said, or_else}
+use Rattle.refusal.specs.Numbers.{or_else}
 use Rattle.algebra.specs.Code.{Code, Codeword}
 use Rattle.layout.specs.declared.shape.Shape.{Shape}
 use Rattle.layout.specs.declared.losses.LossList.{LossList}
 use Rattle.layout.specs.Sizes.{parity_of}
-use Rattle.layout.specs.Blocks.{Run, block_at, ZeroRun}
-use Rattle.layout.specs.Checks.{width_refusal, run_refusal, loss_refusal}
+use Rattle.layout.specs.Blocks.{Run, block_at}
+use Rattle.layout.specs.Checks.{run_refusal, loss_refusal}
 use Rattle.code.specs.Lost.{Contradicts, AgreeOff, Contradicted}
-
--- CALLS THAT CHECK FIRST
-
--- done, or refused by the checks; where these pass, an error is one of which `Late` holds
-abbrev pub CheckedFirst : {A : Type 0} → Option (ℕ × List ℕ) → (Refusal → Type 0) → Result A Refusal → Type 0
-CheckedFirst check Late (Ok a) = check ≡ None
-CheckedFirst check Late (Err e) = (check ≡ Some (said e)) ⊎ ((check ≡ None) × Late e)
-
--- a run is zero where the checks pass, and as it was where they refuse
-abbrev pub Cleared : Option (ℕ × List ℕ) → List ℕ → List ℕ → Type 0
-Cleared check before after = (check ≡ None → ZeroRun after) × ((e : ℕ × List ℕ) → check ≡ Some e → after ≡ before)
-
--- the check of the width, then another
-abbrev pub at_width : ℕ → Shape → Option (ℕ × List ℕ) → Option (ℕ × List ℕ)
-at_width bits s check = or_else (width_refusal bits s) check
-
--- CODEWORDS
 
 -- the run holds as many packets as the code has positions, and they are a codeword
 abbrev pub CodewordRun : Code → List ℕ → Type 0

@@ -2,7 +2,8 @@
 ghost use Rattle.std.specs.Prelude.{◌≡◌, IfErr, IfOk};
 ghost use Rattle.refusal.specs.Numbers.{refused_with};
 ghost use Rattle.layout.specs.Blocks.{ZeroRun, code_of};
-ghost use Rattle.code.specs.Calls.{CheckedFirst, Cleared, CodewordRun, ContradictoryRun, Encoded, Repaired, Says, at_width};
+ghost use Rattle.layout.specs.Checks.{CheckedFirst, Cleared, at_width};
+ghost use Rattle.code.specs.Calls.{CodewordRun, ContradictoryRun, Encoded, Repaired, Says};
 ghost use Rattle.code.specs.Calls.{encode_refusal, check_refusal, repair_refusal};
 
 use crate::code::Code;

@@ -2,7 +2,7 @@
 ghost use Rattle.std.specs.Prelude.{◌≡◌, ◌%◌, ◌^◌, ◌<◌, ◌≤◌, length, IfErr, IfOk, None, ℕ, Some, ◌≢◌};
 ghost use Rattle.refusal.specs.Numbers.{refused_with};
 ghost use Rattle.layout.specs.Blocks.{Run, ZeroRun, block_at, size_of};
-ghost use Rattle.layout.specs.Checks.{width_refusal};
+ghost use Rattle.layout.specs.Checks.{CheckedFirst, Cleared, width_refusal};
 
 use crate::packet::{add_product, columns};
 use crate::solver::Solver;
@@ -27,7 +27,7 @@ impl<F: Arithmetic> Code<F> {
     ghost use Rattle.code.specs.Sums.{AbsorbedFrom, FirstNonzero, Gained};
     ghost use Rattle.code.specs.Lost.{Contradicts};
     ghost use Rattle.code.specs.Held.{Filled};
-    ghost use Rattle.code.specs.Calls.{CheckedFirst, Cleared, CodewordRun, ContradictoryRun, Encoded, Repaired, Says};
+    ghost use Rattle.code.specs.Calls.{CodewordRun, ContradictoryRun, Encoded, Repaired, Says};
     ghost use Rattle.code.specs.Calls.{encode_refusal, check_refusal, repair_refusal};
     ghost use Rattle.code.specs.Rebuilt.{Rebuilt, Unmatched, absorb_refusal, rebuild_refusal};
     ghost use Rattle.code.specs.Values.{code};

@@ -1,5 +1,5 @@
 -- What the checks say where they pass.
-use Rattle.std.proofs.Common.{◌≡◌, ℕ, zero, suc, ◌+◌, ◌*◌, ◌<◌, ◌≤◌, Bool, true, false, cond, ◌&&◌, eqb, ltb, leb, List, [], ◌∷◌, length, Some, None, Option, sym, refl, ap, ◌∙◌, add-one, arith}
+use Rattle.std.proofs.Common.{◌≡◌, ℕ, zero, suc, ◌+◌, ◌*◌, ◌<◌, ◌≤◌, Bool, true, false, cond, ◌&&◌, eqb, ltb, leb, List, length, Some, None, Option, sym, refl, ap, ◌∙◌, add-one, arith}
 use native.Mathlib.Decide.{ℕ_discrete, dec_lt}
 use Rattle.refusal.specs.declared.Refusal.TheVariants.{BadLosses, OtherWidth, TooFew, WrongRun}
 use Rattle.algebra.proofs.Marks.{true_false}

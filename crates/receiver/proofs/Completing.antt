@@ -4,7 +4,7 @@ use native.Mathlib.Decide.{ℕ_discrete, dec_lt}
 use Rattle.std.specs.List.{between}
 use Rattle.std.proofs.lemmas.List.Edits.{get_or-between}
 use Rattle.std.proofs.lemmas.List.{get_or_past}
-use Rattle.algebra.specs.Code.{Block, SamePacket, ZeroPacket, among}
+use Rattle.algebra.specs.Code.{Code, Block, SamePacket, ZeroPacket, among}
 use Rattle.algebra.proofs.Marks.{two, true_false, among_find}
 use Rattle.layout.specs.declared.shape.Shape.{Shape}
 use Rattle.layout.specs.declared.losses.LossList.{LossList}
@@ -35,27 +35,30 @@ part_words run a n fits long k = elim (dec_lt k n) [
 ]
 
 module _ (s : Shape) (prod : ℕ → ℕ → ℕ) (l : LossList) (g : Grid) (i : ℕ) where
+  abbrev C : Code
+  C = code_of s prod
+
   -- to have the packets that the block holds is to agree off the missing positions
-  pub agree_off : Missing s g i l → (d : Block) → Agrees s prod g i d → AgreeOff s prod l d (block_of s g i)
+  pub agree_off : Missing s g i l → (d : Block) → Agrees C g i d → AgreeOff C l d (block_of C g i)
   agree_off M d a q h f j c p r =
       let o = held_from (g.slots i q) (sym f ∙ M.same q h) in
-      a q o.0 h o.1 j c p r ∙ same_read s prod _ _ (sym o.1) j c p r
+      a q o.0 h o.1 j c p r ∙ same_read C _ _ (sym o.1) j c p r
 
   -- and the other way round
-  pub agree_held : Missing s g i l → (d : Block) → AgreeOff s prod l d (block_of s g i) → Agrees s prod g i d
-  agree_held M d a q ws h e j c p r = a q h (M.same q h ∙ ap (λ o. not (is_some o)) e) j c p r ∙ same_read s prod _ _ e j c p r
+  pub agree_held : Missing s g i l → (d : Block) → AgreeOff C l d (block_of C g i) → Agrees C g i d
+  agree_held M d a q ws h e j c p r = a q h (M.same q h ∙ ap (λ o. not (is_some o)) e) j c p r ∙ same_read C _ _ e j c p r
 
   module _ (A : Lacks s g i l) where
     -- the missing packets read as zero
-    pub missing_gone : (k : ℕ) → k < l.len → ZeroPacket (code_of s prod) (block_of s g i (lost l k))
-    missing_gone k h = empty_zero s prod _ (sym (ap is_some (was_empty s l i [] g A k h)))
+    pub missing_gone : (k : ℕ) → k < l.len → ZeroPacket C (block_of C g i (lost l k))
+    missing_gone k h = empty_zero C _ (sym (ap is_some (was_empty s l i [] g A k h)))
 
     module _ (run : List ℕ) (h : Grid) (size : Packets s (parity_of s + 1) run) (fits : (k : ℕ) → get_or run k 0 < 2 ^ 32) (P : Put s l i l.len run g h) where
       -- packet number k of the run
       abbrev part : ℕ → List ℕ
       part k = between (k * packet_of s) (k * packet_of s + packet_of s) run
 
-      put_packet : (k : ℕ) → k < l.len → IsPacket s (part k)
+      put_packet : (k : ℕ) → k < l.len → IsPacket (packet_of s) (part k)
       put_packet k m =
           let few = A.missing.few in
           let long = part_length run k (packet_of s) (part_ends k (parity_of s + 1) (packet_of s) refl refl size (omega arith)) in
@@ -64,7 +67,7 @@ module _ (s : Shape) (prod : ℕ → ℕ → ℕ) (l : LossList) (g : Grid) (i :
       slot_held : (q : ℕ) → among (lost l) l.len q ≡ false → h.slots i q ≡ g.slots i q
       slot_held q f = P.off i q (λ _ e. true_false (among (lost l) l.len q) e f)
 
-      filled : (q : ℕ) → q < s.positions → (ws : List ℕ) × (h.slots i q ≡ Some ws) × IsPacket s ws
+      filled : (q : ℕ) → q < s.positions → (ws : List ℕ) × (h.slots i q ≡ Some ws) × IsPacket (packet_of s) ws
       filled q m = elim (two (among (lost l) l.len q)) [
         | inl f ↦ let k = among_find (lost l) l.len q f in (part k.0, ap (h.slots i) (sym k.2) ∙ P.at k.0 k.1, put_packet k.0 k.1)
         | inr f ↦
@@ -85,19 +88,19 @@ module _ (s : Shape) (prod : ℕ → ℕ → ℕ) (l : LossList) (g : Grid) (i :
                 let k = among_find (lost l) l.len b f in
                 let q : Some (part k.0) ≡ Some ws = sym (P.at k.0 k.1) ∙ ap (h.slots i) k.2 ∙ ap (λ v. h.slots v b) (sym z) ∙ e in
                 let same : part k.0 ≡ ws = cc in
-                subst (IsPacket s) same (put_packet k.0 k.1)
+                subst (IsPacket (packet_of s)) same (put_packet k.0 k.1)
           ]
         ];
       }
 
-      module _ (L : LostPackets s prod l (block_of s g i) run) where
-        slot_lost : (k : ℕ) → k < l.len → SamePacket (code_of s prod) (block_of s h i (lost l k)) (block_at s run k)
-        slot_lost k m j c p r = same_read s prod _ _ (P.at k m) j c p r ∙ entry_read s k (packet_of s) run refl j c p r
+      module _ (L : LostPackets C l (block_of C g i) run) where
+        slot_lost : (k : ℕ) → k < l.len → SamePacket C (block_of C h i (lost l k)) (block_at C run k)
+        slot_lost k m j c p r = same_read C _ _ (P.at k m) j c p r ∙ entry_read C k (packet_of s) run refl j c p r
 
-        agrees : AgreeOff s prod l (block_of s h i) (block_of s g i)
-        agrees q m f = same_read s prod _ _ (slot_held q f)
+        agrees : AgreeOff C l (block_of C h i) (block_of C g i)
+        agrees q m f = same_read C _ _ (slot_held q f)
 
-        pub completes : Completes s prod g i h
+        pub completes : Completes C g i h
         completes = record {
           rows_same = P.rows_same;
           columns_same = P.columns_same;
@@ -113,12 +116,12 @@ module _ (s : Shape) (prod : ℕ → ℕ → ℕ) (l : LossList) (g : Grid) (i :
           others = λ a b ne. P.off a b (λ z f. let k = among_find (lost l) l.len b f in ne z (subst (λ v. v < s.positions) k.2 (A.missing.below k.0 k.1)));
           codeword = record {
             words = λ q m j c p r. let o = filled q m in subst (λ v. packet_in s.words (packet_or v []) j c < 2 ^ 32) (sym o.1) (o.2.words (j * s.words + c));
-            sums = L.zero (block_of s h i) agrees slot_lost;
+            sums = L.zero (block_of C h i) agrees slot_lost;
           };
           only = λ d is a q m. elim (two (among (lost l) l.len q)) [
             | inl f ↦
                 let k = among_find (lost l) l.len q f in
-                subst (λ v. SamePacket (code_of s prod) (d v) (block_of s h i v)) k.2 (λ j c p r. L.only d (agree_off A.missing d a) is.sums k.0 k.1 j c p r ∙ sym (slot_lost k.0 k.1 j c p r))
+                subst (λ v. SamePacket C (d v) (block_of C h i v)) k.2 (λ j c p r. L.only d (agree_off A.missing d a) is.sums k.0 k.1 j c p r ∙ sym (slot_lost k.0 k.1 j c p r))
             | inr f ↦ λ j c p r. agree_off A.missing d a q m f j c p r ∙ sym (agrees q m f j c p r)
           ];
         }

@@ -1,6 +1,7 @@
 -- The positions that a block does not hold, collected one after another.
-use Rattle.std.proofs.Common.{◌≡◌, ℕ, zero, suc, ◌+◌, ◌-◌, ◌<◌, ◌≤◌, Bool, true, false, not, [], Some, Ok, Err, sym, refl, ap, ◌∙◌, inl, inr, add-zero, add-suc, add-one, arith}
+use Rattle.std.proofs.Common.{◌≡◌, ℕ, zero, suc, ◌+◌, ◌-◌, ◌<◌, ◌≤◌, Bool, true, false, not, Some, Ok, Err, sym, refl, ap, ◌∙◌, inl, inr, add-zero, add-suc, add-one, arith}
 use native.Mathlib.Decide.{ℕ_discrete}
+use Rattle.refusal.specs.declared.Refusal.TheVariants.{TooFew}
 use Rattle.refusal.specs.declared.Refusal.{Refusal}
 use Rattle.algebra.specs.Code.{count, among}
 use Rattle.algebra.proofs.Marks.{Below, among_at, among_skip, among_off, among_ext}
@@ -68,7 +69,7 @@ count_most held k (suc d) = rw (add-suc k d) (grind (arith, count_most held k d)
 
 module _ (s : Shape) (g : Grid) (i : ℕ) where
   -- one position more is missing than the block has parity positions
-  too_few : (n : ℕ) (l : LossList) → Collected (held_in g i) n s l → n < s.positions → parity_of s ≤ l.len → false ≡ held_in g i n → few_refusal s g i ≡ Some (7, [])
+  too_few : (n : ℕ) (l : LossList) → Collected (held_in g i) n s l → n < s.positions → parity_of s ≤ l.len → false ≡ held_in g i n → few_refusal s g i ≡ Some (said TooFew)
   too_few n l c lt le e =
       let held = held_in g i in
       let rest = s.positions - (n + 1) in

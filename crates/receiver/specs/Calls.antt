@@ -1,7 +1,7 @@
 -- What the calls of a receiver answer, and what they leave behind. A receiver is spoken of by its meaning.
 use Rattle.std.specs.Prelude.{◌≡◌, ℕ, ◌*◌, ◌<◌, Bool, true, false, cond, ◌&&◌, List, [], ◌∷◌, is_some, Some, None, Ok, Err, Option, Result, ◌==◌, nat_lt}
 use Rattle.refusal.specs.declared.Refusal.{Refusal}
-use Rattle.refusal.specs.declared.Refusal.TheVariants.{NoShape}
+use Rattle.refusal.specs.declared.Refusal.TheVariants.{NoShape, OtherPacket, OutsideShape, SlotEmpty}
 use Rattle.refusal.specs.Numbers.{said, or_else}
 use Rattle.layout.specs.declared.shape.Dimensions.{Dimensions}
 use Rattle.layout.specs.declared.shape.Shape.{Shape}
@@ -18,7 +18,7 @@ use Rattle.receiver.specs.Meaning.{Meaning}
 
 -- refusal 10 while no shape is set, then what is said of the shape
 abbrev pub of_shape : Option Shape → (Shape → Option (ℕ × List ℕ)) → Option (ℕ × List ℕ)
-of_shape None check = Some (10, [])
+of_shape None check = Some (said NoShape)
 of_shape (Some s) check = check s
 
 -- the shape that is set, or refusal 10 while none is
@@ -28,11 +28,11 @@ ShapeSaid o (Err e) = (o ≡ None) × (e ≡ NoShape)
 
 -- refusal 11, unless the shape has the block
 abbrev pub block_refusal : Shape → ℕ → Option (ℕ × List ℕ)
-block_refusal s i = cond (nat_lt i s.blocks) None (Some (11, []))
+block_refusal s i = cond (nat_lt i s.blocks) None (Some (said OutsideShape))
 
 -- refusal 11, unless the shape has the position
 abbrev pub position_refusal : Shape → ℕ → Option (ℕ × List ℕ)
-position_refusal s j = cond (nat_lt j s.positions) None (Some (11, []))
+position_refusal s j = cond (nat_lt j s.positions) None (Some (said OutsideShape))
 
 -- refusal 11, unless the shape has the block and the position
 abbrev pub place_refusal : Shape → ℕ → ℕ → Option (ℕ × List ℕ)
@@ -64,7 +64,7 @@ Compared g i j ws (Err e) = Some (said e) ≡ get_refusal g i j ws
 -- refusal 12, if the slot holds another packet
 abbrev pub other_refusal : Option (List ℕ) → List ℕ → Option (ℕ × List ℕ)
 other_refusal None ws = None
-other_refusal (Some held) ws = cond (same_words held ws) None (Some (12, []))
+other_refusal (Some held) ws = cond (same_words held ws) None (Some (said OtherPacket))
 
 -- the refusal of a packet at a block and a position
 abbrev pub packet_refusal : Meaning → ℕ → ℕ → List ℕ → Option (ℕ × List ℕ)
@@ -130,7 +130,7 @@ Took m (refused e) (Err f) after = after ≡ m
 
 -- refusal 23, if the slot is empty
 abbrev pub empty_refusal : Option (List ℕ) → Option (ℕ × List ℕ)
-empty_refusal None = Some (23, [])
+empty_refusal None = Some (said SlotEmpty)
 empty_refusal (Some ws) = None
 
 -- the refusal of a read from a block of the shape

@@ -4,3 +4,4 @@ pub mod Calls
 pub mod Blocks
 pub mod Repairs
 pub mod Steps
+pub mod Stored

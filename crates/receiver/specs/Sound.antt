@@ -4,9 +4,9 @@ use Rattle.layout.specs.declared.shape.Shape.{Shape}
 use Rattle.layout.specs.Sizes.{packet_of}
 use Rattle.store.specs.Grids.{Grid}
 
--- the words are a packet of the shape
-pub record IsPacket (s : Shape) (ws : List ℕ) : Type 0 where
-  pub long : length ws ≡ packet_of s
+-- the words are a packet of this size
+pub record IsPacket (size : ℕ) (ws : List ℕ) : Type 0 where
+  pub long : length ws ≡ size
   pub words : (k : ℕ) → slice_index ws k < 2 ^ 32
 
 -- the grid has the shape's sizes, and each filled slot holds one of its packets
@@ -14,7 +14,7 @@ pub record Fitted (s : Shape) (g : Grid) : Type 0 where
   pub rows : g.rows ≡ s.blocks
   pub columns : g.columns ≡ s.positions
   pub size : g.size ≡ packet_of s
-  pub packets : (i j : ℕ) (ws : List ℕ) → g.slots i j ≡ Some ws → IsPacket s ws
+  pub packets : (i j : ℕ) (ws : List ℕ) → g.slots i j ≡ Some ws → IsPacket (packet_of s) ws
 
 -- if a shape is set, then it is one for the arithmetic, and the store has been formatted for it
 abbrev pub Sound : ℕ → Option Shape → Grid → Type 0

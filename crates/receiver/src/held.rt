@@ -1,8 +1,7 @@
-// What a receiver holds: packets out, and how many a block has.
+//! What a receiver holds: packets out, and how many a block has.
 ghost use Rattle.std.specs.Prelude.{◌≡◌};
 ghost use Rattle.refusal.specs.Numbers.{refused_with};
-ghost use Rattle.store.specs.Grids.{after_get};
-ghost use Rattle.receiver.specs.Meaning.{means};
+ghost use Rattle.receiver.specs.Meaning.{after_fetch, means};
 ghost use Rattle.receiver.specs.Calls.{fetch_refusal, count_refusal, Counted};
 
 use crate::Receiver;
@@ -11,15 +10,16 @@ use refusal::Refusal;
 use store::SlotStore;
 
 impl<F: Arithmetic, S: SlotStore> Receiver<F, S> {
-    // Copies the packet of a block and a position into `run`.
+    /// Copies the packet of a block and a position into `run`.
     pub fn fetch(&self, block: usize, position: usize, run: &mut [u32]) -> Result<(), Refusal>
-        ensures answer { refused_with result ≡ fetch_refusal (means self.now) block position run.old }
-        ensures after { run.new ≡ after_get result (S.SlotStore.grid self.now.store) block position run.old }
+        ensures answer { refused_with result
+            ≡ fetch_refusal (means self.now) block position run.old }
+        ensures after { run.new ≡ after_fetch self.now result block position run.old }
     {
         self.block(block)?.get(position, run)
     }
 
-    // How many positions of a block are held.
+    /// How many positions of a block are held; refused with `NoShape` or `OutsideShape`.
     pub fn count(&self, block: usize) -> Result<usize, Refusal>
         ensures answer { refused_with result ≡ count_refusal (means self.now) block }
         ensures counted { Counted (means self.now) block result }

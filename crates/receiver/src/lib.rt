@@ -1,10 +1,11 @@
-// A board's receiver: frames in, packets kept in the slots of a store, blocks repaired, packets out.
+//! A board's receiver: frames in, packets kept in the slots of a store, blocks repaired, packets out.
 #![tactic(auto)]
 
 ghost use Rattle.receiver.specs.Sound.{Sound};
 
 use field::Arithmetic;
 use layout::shape::Shape;
+use std::marker::PhantomData;
 use store::SlotStore;
 
 pub mod blank;
@@ -15,29 +16,29 @@ pub mod take;
 #[cfg(test)]
 mod tests;
 
-// Keeps the packets of one transmission at a time. It is blank until a shape is set.
+/// Keeps the packets of one transmission at a time. It is blank until a shape is set.
 // Its meaning leaves out the store's lock: the calls that write have a clause for it, `shut`, and those that read would have to carry it.
 #[derive(Drop)]
 pub struct Receiver<F: Arithmetic, S: SlotStore> {
-    arithmetic: F,
+    field: PhantomData<F>,
     store: S,
     shape: Option<Shape>,
     // Once a shape is set, it is one for the arithmetic, and the store fits it.
     ghost sound: { Sound F.Arithmetic.bits shape (S.SlotStore.grid store) },
 }
 
-// What a frame did.
+/// What a frame did.
 #[derive(Clone, Copy, PartialEq, Eq, Debug)]
 pub enum Taken {
-    // A shape was set, and every slot is empty.
+    /// A shape was set, and every slot is empty.
     Shaped,
-    // The packet was put into its slot.
+    /// The packet was put into its slot.
     Fresh,
-    // The slot held this very packet.
+    /// The slot held this very packet.
     Known,
 }
 
-// A block holds all its packets now, and how many of them were missing.
+/// A block holds all its packets now, and how many of them were missing.
 #[derive(Clone, Copy, PartialEq, Eq, Debug)]
 pub struct Whole {
     pub restored: usize,

@@ -1,12 +1,14 @@
-// The missing packets of a block, put into the store.
-ghost use Rattle.std.specs.Prelude.{◌≡◌, ℕ, ◌+◌, ◌^◌, ◌<◌, slice_index};
+//! The missing packets of a block, put into the store.
+ghost use Rattle.std.specs.Prelude.{◌≡◌, ℕ, ◌+◌, ◌^◌, ◌<◌, IfErr, IfOk, slice_index};
 ghost use Rattle.layout.specs.Sizes.{parity_of, Packets};
-ghost use Rattle.receiver.specs.Meaning.{means};
+ghost use Rattle.layout.specs.Checks.{CheckedFirst, Cleared};
+ghost use Rattle.receiver.specs.Meaning.{StaysShut, means};
 ghost use Rattle.receiver.specs.Steps.{Lacks, AllPut, Mended};
-ghost use Rattle.receiver.specs.Repairs.{AfterRepair, Judges};
+ghost use Rattle.receiver.specs.Repairs.{repair_refusal, Conflicts, Judges, Restored};
 
 use crate::stored::StoredBlock;
 use crate::{Receiver, Whole};
+use code::code::Code;
 use field::Arithmetic;
 use layout::losses::LossList;
 use layout::runs::clear;
@@ -26,7 +28,8 @@ fn put_found<S: SlotStore>(
 ) -> Result<(), Refusal>
     requires lacks { Lacks shape.now (S.SlotStore.grid store.old) block losses.now }
     requires work { Packets shape.now (parity_of shape.now + 1) work.now }
-    ensures put { AllPut shape.now losses.now block work.now (S.SlotStore.grid store.old) (S.SlotStore.grid store.new) result }
+    ensures put { AllPut shape.now losses.now block work.now
+        (S.SlotStore.grid store.old) (S.SlotStore.grid store.new) result }
     ensures words { (k : ℕ) → slice_index work.now k < 2 ^ 32 }
     ensures kept { S.SlotStore.capacity store.new ≡ S.SlotStore.capacity store.old }
     ensures shut { S.SlotStore.lock store.old ≡ 0 → S.SlotStore.lock store.new ≡ 0 }
@@ -53,17 +56,19 @@ fn mend<F: Arithmetic, S: SlotStore>(
     requires width { shape.now.rows ≡ F.Arithmetic.bits }
     requires lacks { Lacks shape.now (S.SlotStore.grid store.old) block losses.now }
     requires work { Packets shape.now (parity_of shape.now + 1) work.old }
-    ensures mended { Mended shape.now F.Arithmetic.prod losses.now (S.SlotStore.grid store.old) block result (S.SlotStore.grid store.new) }
+    ensures mended { Mended shape.now F.Arithmetic.prod losses.now
+        (S.SlotStore.grid store.old) block result (S.SlotStore.grid store.new) }
     ensures kept { S.SlotStore.capacity store.new ≡ S.SlotStore.capacity store.old }
     ensures shut { S.SlotStore.lock store.old ≡ 0 → S.SlotStore.lock store.new ≡ 0 }
 {
+    let codec = Code::<F>::new(shape)?;
     // Made anew: the one in `repair` ends where the store is lent to be written.
     let stored = StoredBlock {
         store: &*store,
         shape: *shape,
         block,
     };
-    stored.find_missing::<F>(losses, work)?;
+    stored.find_missing(&codec, losses, work)?;
     put_found::<S>(store, shape, block, losses, work)?;
     Ok(Whole {
         restored: losses.positions().len(),
@@ -71,11 +76,18 @@ fn mend<F: Arithmetic, S: SlotStore>(
 }
 
 impl<F: Arithmetic, S: SlotStore> Receiver<F, S> {
-    // Restores the packets of a block that are missing.
+    /// Restores the packets of a block that are missing, by way of a work run of `Shape::work` words, which is zero afterwards.
+    /// Refused with `NoShape`, `OutsideShape`, `WrongRun` at place 0 or `TooFew`, whichever comes first, and then nothing changes;
+    /// refused with `Contradictory` if no codeword has the packets that are held, and then only the work run changes.
     pub fn repair(&mut self, block: usize, work: &mut [u32]) -> Result<Whole, Refusal>
-        ensures after { AfterRepair F.Arithmetic.prod (means self.old) block work.old work.new result (means self.new) }
+        ensures whole { IfOk result (λ w. Restored F.Arithmetic.prod
+            (means self.old) block w.restored (means self.new)) }
+        ensures answer { CheckedFirst (repair_refusal (means self.old) block work.old)
+            (Conflicts F.Arithmetic.prod (means self.old) block) result }
+        ensures left { IfErr result (λ e. means self.new ≡ means self.old) }
+        ensures work { Cleared (repair_refusal (means self.old) block work.old) work.old work.new }
         ensures judged { Judges F.Arithmetic.prod (means self.old) block work.old result }
-        ensures shut { S.SlotStore.lock self.old.store ≡ 0 → S.SlotStore.lock self.new.store ≡ 0 }
+        ensures shut { StaysShut self.old self.new }
     {
         let stored = self.block(block)?;
         let shape = stored.shape;

@@ -1,18 +1,15 @@
-// A block of packets in a store.
+//! A block of packets in a store.
 ghost use Rattle.std.specs.Prelude.{◌≡◌, ◌+◌, ◌<◌, length, Ok, IfOk};
 ghost use Rattle.refusal.specs.Numbers.{refused_with};
-ghost use Rattle.algebra.specs.Code.{count};
 ghost use Rattle.layout.specs.Sizes.{parity_of, packet_of, Packets};
 ghost use Rattle.layout.specs.Blocks.{ZeroRun};
-ghost use Rattle.store.specs.Grids.{after_get};
-ghost use Rattle.code.specs.Lost.{FoundLost};
+ghost use Rattle.code.specs.Values.{code};
 ghost use Rattle.receiver.specs.Sound.{Fitted};
-ghost use Rattle.receiver.specs.Calls.{position_refusal, read_refusal, held_in};
-ghost use Rattle.receiver.specs.Blocks.{block_of, Missing};
-ghost use Rattle.receiver.specs.Steps.{Listed, HeldSummed};
+ghost use Rattle.receiver.specs.Calls.{position_refusal};
+ghost use Rattle.receiver.specs.Blocks.{Missing};
+ghost use Rattle.receiver.specs.Steps.{FoundMissing, HeldSummed};
 
-use code::rebuild::rebuild;
-use code::sums::absorb;
+use code::code::Code;
 use field::Arithmetic;
 use layout::losses::LossList;
 use layout::runs::clear;
@@ -32,10 +29,13 @@ pub(crate) struct StoredBlock<'a, S: SlotStore> {
 }
 
 impl<'a, S: SlotStore> StoredBlock<'a, S> {
+    ghost use Rattle.receiver.specs.Stored.{Counts, Lists, after_read, grid_in, has, read_refused};
+
     // The slot of a position; refused outside the shape.
     pub(crate) fn slot(&self, position: usize) -> Result<Slot, Refusal>
         ensures answer { refused_with result ≡ position_refusal self.now.shape position }
-        ensures at { IfOk result (λ slot. (slot.row ≡ self.now.block) × (slot.column ≡ position)) }
+        ensures row { IfOk result (λ slot. slot.row ≡ self.now.block) }
+        ensures column { IfOk result (λ slot. slot.column ≡ position) }
     {
         if position >= self.shape.positions() {
             return Err(Refusal::OutsideShape);
@@ -48,8 +48,8 @@ impl<'a, S: SlotStore> StoredBlock<'a, S> {
 
     // Copies the packet of a position into `run`.
     pub(crate) fn get(&self, position: usize, run: &mut [u32]) -> Result<(), Refusal>
-        ensures answer { refused_with result ≡ read_refusal self.now.shape (S.SlotStore.grid self.now.store.now) self.now.block position run.old }
-        ensures after { run.new ≡ after_get result (S.SlotStore.grid self.now.store.now) self.now.block position run.old }
+        ensures answer { refused_with result ≡ read_refused self.now position run.old }
+        ensures after { run.new ≡ after_read self.now result position run.old }
     {
         let slot = self.slot(position)?;
         self.shape.check_run(1, run, 0)?;
@@ -59,14 +59,14 @@ impl<'a, S: SlotStore> StoredBlock<'a, S> {
     // Whether a position is held.
     fn held(&self, position: usize) -> Result<bool, Refusal>
         requires { position < self.now.shape.positions }
-        ensures { result ≡ Ok (held_in (S.SlotStore.grid self.now.store.now) self.now.block position) }
+        ensures { result ≡ Ok (has self.now position) }
     {
         self.store.held(self.slot(position)?)
     }
 
     // How many positions are held.
     pub(crate) fn count(&self) -> Result<usize, Refusal>
-        ensures { result ≡ Ok (count (held_in (S.SlotStore.grid self.now.store.now) self.now.block) self.now.shape.positions) }
+        ensures { Counts self.now result }
     {
         // A loop, since nothing tells the closure of a `try_fold` that its number so far is small enough to be raised.
         let mut held = 0;
@@ -80,7 +80,7 @@ impl<'a, S: SlotStore> StoredBlock<'a, S> {
 
     // The positions that are not held; refused if these are too many.
     pub(crate) fn missing(&self) -> Result<LossList, Refusal>
-        ensures { Listed self.now.shape (S.SlotStore.grid self.now.store.now) self.now.block result }
+        ensures { Lists self.now result }
     {
         let mut losses = LossList::none();
         for position in 0..self.shape.positions() {
@@ -95,19 +95,20 @@ impl<'a, S: SlotStore> StoredBlock<'a, S> {
     // run in `code`, since a run lends its packets, where a store copies them and may refuse.
     fn absorb_held<F: Arithmetic>(
         &self,
+        codec: &Code<F>,
         sums: &mut [u32],
         scratch: &mut [u32],
     ) -> Result<(), Refusal>
-        requires width { self.now.shape.rows ≡ F.Arithmetic.bits }
+        requires codec { codec.now.shape ≡ self.now.shape }
         requires sums { Packets self.now.shape (parity_of self.now.shape) sums.old }
         requires zero { ZeroRun sums.old }
         requires scratch { length scratch.old ≡ packet_of self.now.shape }
-        ensures { HeldSummed self.now.shape F.Arithmetic.prod (S.SlotStore.grid self.now.store.now) self.now.block sums.new result }
+        ensures { HeldSummed (code codec.now) (grid_in self.now) self.now.block sums.new result }
     {
         for position in 0..self.shape.positions() {
             if self.held(position)? {
                 self.get(position, scratch)?;
-                absorb::<F>(&self.shape, sums, position, scratch)?;
+                codec.absorb(sums, position, scratch)?;
             }
         }
         Ok(())
@@ -116,17 +117,19 @@ impl<'a, S: SlotStore> StoredBlock<'a, S> {
     // Finds the missing packets: they stand in the first places of the work run afterwards.
     pub(crate) fn find_missing<F: Arithmetic>(
         &self,
+        codec: &Code<F>,
         losses: &LossList,
         work: &mut [u32],
     ) -> Result<(), Refusal>
-        requires width { self.now.shape.rows ≡ F.Arithmetic.bits }
-        requires missing { Missing self.now.shape (S.SlotStore.grid self.now.store.now) self.now.block losses.now }
+        requires codec { codec.now.shape ≡ self.now.shape }
+        requires missing { Missing self.now.shape (grid_in self.now) self.now.block losses.now }
         requires work { Packets self.now.shape (parity_of self.now.shape + 1) work.old }
-        ensures { FoundLost self.now.shape F.Arithmetic.prod losses.now (block_of self.now.shape (S.SlotStore.grid self.now.store.now) self.now.block) work.new result }
+        ensures { FoundMissing (code codec.now) losses.now (grid_in self.now) self.now.block
+            work.new result }
     {
         clear(work);
         let (sums, scratch) = work.split_at_mut(self.shape.parity() * self.shape.packet());
-        self.absorb_held::<F>(sums, scratch)?;
-        rebuild::<F>(&self.shape, losses, sums, scratch)
+        self.absorb_held(codec, sums, scratch)?;
+        codec.rebuild(losses, sums, scratch)
     }
 }

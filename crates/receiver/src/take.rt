@@ -1,8 +1,8 @@
-// Frames in.
+//! Frames in.
 ghost use Rattle.std.specs.Prelude.{◌≡◌, ◌≤◌, length, Some};
 ghost use Rattle.refusal.specs.Numbers.{refused_with};
 ghost use Rattle.frame.specs.Frames.{parse};
-ghost use Rattle.receiver.specs.Meaning.{means};
+ghost use Rattle.receiver.specs.Meaning.{StaysShut, means};
 ghost use Rattle.receiver.specs.Calls.{start_refusal, TookShape, Compared, packet_refusal, TookPacket, take_refusal, Took};
 
 use crate::{Receiver, Taken};
@@ -16,9 +16,10 @@ use store::slots::{Format, Slot};
 impl<F: Arithmetic, S: SlotStore> Receiver<F, S> {
     // Sets a shape of these dimensions, and formats the store for it.
     fn start(&mut self, dimensions: Dimensions) -> Result<Taken, Refusal>
-        ensures answer { refused_with result ≡ start_refusal F.Arithmetic.bits (means self.old) dimensions }
+        ensures answer { refused_with result
+            ≡ start_refusal F.Arithmetic.bits (means self.old) dimensions }
         ensures after { TookShape (means self.old) dimensions result (means self.new) }
-        ensures shut { S.SlotStore.lock self.old.store ≡ 0 → S.SlotStore.lock self.new.store ≡ 0 }
+        ensures shut { StaysShut self.old self.new }
     {
         let shape = Shape::new::<F>(dimensions)?;
         // Made here, since neither a shape nor a format knows the other.
@@ -52,9 +53,11 @@ impl<F: Arithmetic, S: SlotStore> Receiver<F, S> {
         payload: &[u32],
     ) -> Result<Taken, Refusal>
         requires { self.old.shape ≡ Some shape }
-        ensures answer { refused_with result ≡ packet_refusal (means self.old) block position payload.now }
-        ensures after { TookPacket (means self.old) block position payload.now result (means self.new) }
-        ensures shut { S.SlotStore.lock self.old.store ≡ 0 → S.SlotStore.lock self.new.store ≡ 0 }
+        ensures answer { refused_with result
+            ≡ packet_refusal (means self.old) block position payload.now }
+        ensures after { TookPacket (means self.old) block position payload.now
+            result (means self.new) }
+        ensures shut { StaysShut self.old self.new }
     {
         shape.check_run(1, payload, 0)?;
         let slot = self.block(block)?.slot(position)?;
@@ -68,11 +71,14 @@ impl<F: Arithmetic, S: SlotStore> Receiver<F, S> {
         Ok(Taken::Fresh)
     }
 
-    // Takes a frame: a shape starts a transmission, also in the midst of one; a packet goes into its slot.
+    /// Takes a frame: a shape starts a transmission, also in the midst of one; a packet goes into its slot. A refused frame leaves
+    /// what the receiver holds; `BadFrame` comes first, then the checks of a shape and `BadFormat`, or `NoShape`, `WrongRun` at
+    /// place 0, `OutsideShape` and `OtherPacket`.
     pub fn take(&mut self, words: &[u32]) -> Result<Taken, Refusal>
-        ensures answer { refused_with result ≡ take_refusal F.Arithmetic.bits (means self.old) (parse words.now) }
+        ensures answer { refused_with result
+            ≡ take_refusal F.Arithmetic.bits (means self.old) (parse words.now) }
         ensures after { Took (means self.old) (parse words.now) result (means self.new) }
-        ensures shut { S.SlotStore.lock self.old.store ≡ 0 → S.SlotStore.lock self.new.store ≡ 0 }
+        ensures shut { StaysShut self.old self.new }
     {
         match (self.shape, Frame::try_from(words)?) {
             (_, Frame::Shape(dimensions)) => self.start(dimensions),

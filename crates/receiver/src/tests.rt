@@ -1,6 +1,5 @@
 use crate::{Receiver, Taken};
 use field::nibble::*;
-use field::tabled::*;
 use refusal::Refusal;
 use std::process::Abort;
 use store::SlotStore;
@@ -56,12 +55,7 @@ fn holds<S: SlotStore>(rt: &impl Abort, receiver: &Receiver<Nibble, S>) {
 
 // Whether frames and packets go their ways over a store that has room for the block.
 fn receives<S: SlotStore + Drop>(rt: &impl Abort, store: S) {
-    let mut receiver = Receiver::new(
-        Tabled {
-            tables: NibbleTables,
-        },
-        store,
-    );
+    let mut receiver = Receiver::<Nibble, _>::new(store);
     starts(rt, &mut receiver);
     keeps(rt, &mut receiver);
     refuses(rt, &mut receiver);
@@ -97,12 +91,7 @@ fn over_flash_transposed(rt: HostRuntime) {
 #[test]
 fn a_store_too_small_leaves_it_blank(rt: HostRuntime) {
     let mut words = [0; 14];
-    let mut receiver = Receiver::new(
-        Tabled {
-            tables: NibbleTables,
-        },
-        MemoryStore::new(&mut words),
-    );
+    let mut receiver = Receiver::<Nibble, _>::new(MemoryStore::new(&mut words));
     assert_eq!(rt; receiver.take(&SHAPE), Err(Refusal::BadFormat));
     assert_eq!(rt;
         receiver.take(&[0x30000002, 7, 8, 9, 10]),

@@ -9,8 +9,8 @@ returns-then-branch-2-clause-after g c =
     let G = (means c.args.self.now).grid in
     let i = c.args.block in
     let j = c.args.position in
-    let (is, at, of) = c.in_ok-block.ensures.of in
-    let (row, column) = c.in_ok-slot.ensures.at in
-    let answered : Ok c.in_ok-held.field-0 ≡ held_answer G i j = rw (row, at, column) at c.in_ok-held.ensures.answer in
-    let held : G.slots i j ≡ Some c.args.payload.now = rw (row, at, column) at (slot_held (G.slots c.in_ok-slot.slot.row c.in_ok-slot.slot.column) c.args.payload.now (sym c.if-branch-2.true ∙ c.in_ok-holds.ensures)) in
+    let block = c.in_ok-block.ensures in
+    let slot = c.in_ok-slot.ensures in
+    let answered : Ok c.in_ok-held.field-0 ≡ held_answer G i j = rw (slot.row, block.at, slot.column) at c.in_ok-held.ensures.answer in
+    let held : G.slots i j ≡ Some c.args.payload.now = rw (slot.row, block.at, slot.column) at (slot_held (G.slots c.in_ok-slot.slot.row c.in_ok-slot.slot.column) c.args.payload.now (sym c.if-branch-2.true ∙ c.in_ok-holds.ensures)) in
     record { same = refl; row_inside = grind (arith, answered); column_inside = grind (arith, answered); held = held }

@@ -1,5 +1,6 @@
 use Rattle.std.proofs.Common.{◌≡◌, true, false, [], ap, ◌∙◌}
 use Rattle.layout.specs.Blocks.{packet_in}
+use Rattle.code.specs.Values.{code}
 use Rattle.code.proofs.Absorbs.{sums_none, sums_held, sums_lost}
 use Rattle.receiver.specs.Calls.{held_in}
 use Rattle.receiver.specs.Blocks.{block_of}
@@ -9,13 +10,13 @@ use Rattle.receiver.proofs.stored.StoredBlock.absorb_held.Goals.{then-branch+in_
 
 pub loop-position-init : goal.loop-position-init
 loop-position-init g c =
-    let s = c.args.self.now.shape in
-    sums_none s g.F.Arithmetic.prod (block_of s (g.S.SlotStore.grid c.args.self.now.store.now) c.args.self.now.block) c.args.sums.now c.requires.zero
+    let C = code c.args.codec.now in
+    sums_none C (block_of C (g.S.SlotStore.grid c.args.self.now.store.now) c.args.self.now.block) c.args.sums.now c.requires.zero
 
 pub loop-position-preserved : goal.loop-position-preserved
 loop-position-preserved g c =
     let s = c.args.self.now.shape in
-    let prod = g.F.Arithmetic.prod in
+    let C = code c.args.codec.now in
     let G = g.S.SlotStore.grid c.args.self.now.store.now in
     let i = c.args.self.now.block in
     let q = c.loop-position.position in
@@ -24,8 +25,8 @@ loop-position-preserved g c =
       | then-branch+in_ok-get+in_ok-absorb w ↦
           let some : true ≡ held_in G i q = let t = w.if-branch.true in cc in
           let got = w.in_ok-get.ensures.after ∙ packet_or_lem (G.slots i q) _ [] some in
-          rw w.sums-is (sums_held s prod (block_of s G i) q (packet_in s.words w.get.new.run) c.loop-position.sums w.absorb.new.sums (λ j k _ _. ap (λ ws. packet_in s.words ws j k) got) w.in_ok-absorb.ensures.after c.loop-position.invariant)
+          rw w.sums-is (sums_held C (block_of C G i) q (packet_in C.words w.get.new.run) c.loop-position.sums w.absorb.new.sums (λ j k _ _. ap (λ ws. packet_in C.words ws j k) got) w.in_ok-absorb.ensures.added c.loop-position.invariant)
       | else-branch w ↦
           let none : false ≡ held_in G i q = let t = w.if-branch.false in cc in
-          rw w.sums-is (sums_lost s prod (block_of s G i) q c.loop-position.sums (empty_zero s prod (G.slots i q) none) c.loop-position.invariant)
+          rw w.sums-is (sums_lost C (block_of C G i) q c.loop-position.sums (empty_zero C (G.slots i q) none) c.loop-position.invariant)
     ]
