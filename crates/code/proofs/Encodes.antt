@@ -7,7 +7,7 @@ use Rattle.algebra.proofs.Marks.{true_false, among_at, among_off}
 use Rattle.layout.specs.declared.losses.LossList.{LossList}
 use Rattle.layout.specs.Sizes.{lost, LostBelow}
 use Rattle.layout.specs.Blocks.{block_at, ZeroRun, size_of, Run}
-use Rattle.layout.proofs.Blocks.{same_runs, row_lt, column_lt, place}
+use Rattle.layout.proofs.Blocks.{same_runs, row_lt, column_lt, place, words_pos}
 use Rattle.code.specs.Sums.{SumsTo}
 use Rattle.code.specs.Rebuilt.{Solved}
 use Rattle.code.proofs.Absorbs.{sums_zero}
@@ -87,6 +87,6 @@ module _ (C : Code) (some : 0 < size_of C) (l : LossList) (count : l.len ≡ C.p
       encoded S₁ (lost_packets C l parity_below (omega arith) (source_of C source) (source_of C source) (λ q h f i c p r. refl) (λ k h i c p r. source_low (lost l k) i c (let e = ids k h in omega arith)) S are S₁ a) size fits fit
   filled S S₁ are size fits fit (Err e) (a, z) =
       let u = a.fact in
-      let i = row_lt C some a.word u.word_lt in
-      let c = column_lt C some a.word in
-      u.here _ _ i c (place C some a.word) (u.found.has a.sum (let k = u.sum_lt in omega arith) _ _ i c)
+      let i = row_lt C.rows C.words (words_pos C some) a.word u.word_lt in
+      let c = column_lt C.words (words_pos C some) a.word in
+      u.here _ _ i c (place C.words a.word) (u.found.has a.sum (let k = u.sum_lt in omega arith) _ _ i c)

@@ -13,7 +13,7 @@ use Rattle.layout.specs.Sizes.{lost, LostBelow}
 use Rattle.layout.specs.Blocks.{block_at, Run, size_of}
 use Rattle.layout.specs.Checks.{CheckedFirst}
 use Rattle.layout.proofs.Passes.{passed}
-use Rattle.layout.proofs.Blocks.{row_lt, column_lt, place}
+use Rattle.layout.proofs.Blocks.{row_lt, column_lt, place, words_pos}
 use Rattle.code.specs.Sums.{SumsTo}
 use Rattle.code.specs.Rebuilt.{lost_sum, Rebuilt, Unmatched, Solved}
 use Rattle.code.specs.Lost.{Contradicts, AgreeOff, Contradicted, LostPackets, FoundLost}
@@ -76,9 +76,9 @@ module _ (C : Code) (l : LossList) (below : LostBelow l C.positions) (few : l.le
       λ i c p r e n. u.here i c p r e (xor_equal _ _ (sym (sum_is d agrees sum u.sum_lt i c p r) ∙ n) ∙ sym (placed sum i c r)) in
       record {
         none = λ o is agree.
-            let i = row_lt C some word u.word_lt in
-            let c = column_lt C some word in
-            nonzero _ _ i c (place C some word) (sym (syndrome_same C o d (only o agree (λ μ m. is.sums μ (omega arith))) sum _ _ i c) ∙ is.sums sum u.sum_lt _ _ i c);
+            let i = row_lt C.rows C.words (words_pos C some) word u.word_lt in
+            let c = column_lt C.words (words_pos C some) word in
+            nonzero _ _ i c (place C.words word) (sym (syndrome_same C o d (only o agree (λ μ m. is.sums μ (omega arith))) sum _ _ i c) ∙ is.sums sum u.sum_lt _ _ i c);
         d = d;
         solved = record { agrees = agrees; zero = first; only = only };
         sum_lt = u.sum_lt;

@@ -3,7 +3,7 @@ use Rattle.std.proofs.Common.{ℕ}
 use Rattle.algebra.specs.Code.{Block, Codeword}
 use Rattle.layout.specs.declared.shape.Shape.{Shape}
 use Rattle.layout.specs.Blocks.{code_of}
-use Rattle.receiver.specs.Blocks.{One, Several, NoCodeword, Contradictory}
+use Rattle.code.specs.Codewords.{One, Several, NoCodeword, Contradiction}
 
 -- codewords of p that agree with A are codewords of q that agree with B
 abbrev pub Moves : Shape → (ℕ → ℕ → ℕ) → (Block → Type 0) → (ℕ → ℕ → ℕ) → (Block → Type 0) → Type 0
@@ -36,14 +36,12 @@ module _ (s : Shape) (p q : ℕ → ℕ → ℕ) (A B : Block → Type 0) (there
   none_moved n c w b = let u = back c w b in n c u.0 u.1
 
 -- a contradiction, to blocks that agree with the same
-pub contradictory_moved : (s : Shape) (p : ℕ → ℕ → ℕ) (A B : Block → Type 0) → ((c : Block) → A c → B c) → ((c : Block) → B c → A c) → (n sum word : ℕ)
-    → Contradictory (code_of s p) A n sum word → Contradictory (code_of s p) B n sum word
-contradictory_moved s p A B there back n sum word x = record {
+pub contradiction_moved : (s : Shape) (p : ℕ → ℕ → ℕ) (A B : Block → Type 0) → ((c : Block) → A c → B c) → ((c : Block) → B c → A c) → (n sum word : ℕ)
+    → Contradiction (code_of s p) A n sum word → Contradiction (code_of s p) B n sum word
+contradiction_moved s p A B there back n sum word x = record {
   none = λ c w b. x.none c w (back c b);
-  solved = x.solved;
-  agrees = there x.solved x.agrees;
-  zero = x.zero;
-  only = λ c b z. x.only c (back c b) z;
+  d = x.d;
+  solved = record { agrees = there x.d x.solved.agrees; zero = x.solved.zero; only = λ c b z. x.solved.only c (back c b) z };
   sum_lt = x.sum_lt;
   word_lt = x.word_lt;
   lower = x.lower;

@@ -7,7 +7,7 @@ use Rattle.layout.specs.Sizes.{packet_of}
 use Rattle.layout.specs.Blocks.{code_of}
 use Rattle.layout.proofs.Blocks.{row_lt, column_lt, place}
 use Rattle.code.proofs.Losing.{syndrome_same}
-use Rattle.receiver.specs.Blocks.{Contradictory}
+use Rattle.code.specs.Codewords.{Contradiction}
 
 -- sums of packets, of which `sum` is the lowest that is not zero, and `word` its first word that is not
 pub record First (s : Shape) (f : ℕ → ℕ → ℕ → ℕ) (sum word : ℕ) : Type 0 where
@@ -23,15 +23,15 @@ Alike s f g = (μ r c : ℕ) → r < s.rows → c < s.words → f μ r c ≡ g �
 module _ (s : Shape) (f g : ℕ → ℕ → ℕ → ℕ) (same : Alike s f g) (sum word sum' word' : ℕ) (F : First s f sum word) (G : First s g sum' word') where
   -- the word of F, by its row and its place, is not zero in g either
   nonzero : g sum (word / s.words) (word % s.words) ≢ 0
-  nonzero z = F.here _ _ (row_lt s word F.word_lt) (column_lt s word) (place s word) (same sum _ _ (row_lt s word F.word_lt) (column_lt s word) ∙ z)
+  nonzero z = F.here _ _ (row_lt s.rows s.words s.sizes.2 word F.word_lt) (column_lt s.words s.sizes.2 word) (place s.words word) (same sum _ _ (row_lt s.rows s.words s.sizes.2 word F.word_lt) (column_lt s.words s.sizes.2 word) ∙ z)
 
   not_lower : sum < sum' → ⊥
-  not_lower lt = nonzero (G.lower sum _ _ lt (row_lt s word F.word_lt) (column_lt s word))
+  not_lower lt = nonzero (G.lower sum _ _ lt (row_lt s.rows s.words s.sizes.2 word F.word_lt) (column_lt s.words s.sizes.2 word))
 
   not_before : sum ≡ sum' → word < word' → ⊥
   not_before e lt =
       nonzero (ap (λ μ. g μ (word / s.words) (word % s.words)) e
-      ∙ G.before _ _ (row_lt s word F.word_lt) (column_lt s word) (subst (λ k. k < word') (sym (place s word)) lt))
+      ∙ G.before _ _ (row_lt s.rows s.words s.sizes.2 word F.word_lt) (column_lt s.words s.sizes.2 word) (subst (λ k. k < word') (sym (place s.words word)) lt))
 
 first_same : (s : Shape) (f g : ℕ → ℕ → ℕ → ℕ) → Alike s f g → (sum word sum' word' : ℕ) → First s f sum word → First s g sum' word' → (sum ≡ sum') × (word ≡ word')
 first_same s f g same sum word sum' word' F G = elim (cases_order sum sum') [
@@ -51,17 +51,17 @@ first_same s f g same sum word sum' word' F G = elim (cases_order sum sum') [
     back : Alike s g f
     back μ r c lr lc = sym (same μ r c lr lc)
 
-first_of : (s : Shape) (p : ℕ → ℕ → ℕ) (A : Block → Type 0) (n sum word : ℕ) (x : Contradictory (code_of s p) A n sum word) → First s (syndrome (code_of s p) x.solved) sum word
+first_of : (s : Shape) (p : ℕ → ℕ → ℕ) (A : Block → Type 0) (n sum word : ℕ) (x : Contradiction (code_of s p) A n sum word) → First s (syndrome (code_of s p) x.d) sum word
 first_of s p A n sum word x = record { word_lt = x.word_lt; lower = λ μ r c lt. x.lower μ lt r c; before = x.before; here = x.here }
 
 -- two products with the same sums
-pub contradictory_only : (s : Shape) (p q : ℕ → ℕ → ℕ) (A : Block → Type 0) (n sum word sum' word' : ℕ)
+pub contradiction_only : (s : Shape) (p q : ℕ → ℕ → ℕ) (A : Block → Type 0) (n sum word sum' word' : ℕ)
     → ((b : Block) (μ r c : ℕ) → syndrome (code_of s p) b μ r c ≡ syndrome (code_of s q) b μ r c)
-    → Contradictory (code_of s p) A n sum word → Contradictory (code_of s q) A n sum' word' → (sum ≡ sum') × (word ≡ word')
-contradictory_only s p q A n sum word sum' word' same x y =
-    let zero : (μ : ℕ) → μ < n → (r c : ℕ) → r < s.rows → c < s.words → syndrome (code_of s p) y.solved μ r c ≡ 0 =
-    λ μ lt r c lr lc. same y.solved μ r c ∙ y.zero μ lt r c lr lc in
-    let blocks = x.only y.solved y.agrees zero in
-    first_same s (syndrome (code_of s p) x.solved) (syndrome (code_of s q) y.solved)
-    (λ μ r c lr lc. sym (syndrome_same (code_of s p) y.solved x.solved blocks μ r c lr lc) ∙ same y.solved μ r c)
+    → Contradiction (code_of s p) A n sum word → Contradiction (code_of s q) A n sum' word' → (sum ≡ sum') × (word ≡ word')
+contradiction_only s p q A n sum word sum' word' same x y =
+    let zero : (μ : ℕ) → μ < n → (r c : ℕ) → r < s.rows → c < s.words → syndrome (code_of s p) y.d μ r c ≡ 0 =
+    λ μ lt r c lr lc. same y.d μ r c ∙ y.solved.zero μ lt r c lr lc in
+    let blocks = x.solved.only y.d y.solved.agrees zero in
+    first_same s (syndrome (code_of s p) x.d) (syndrome (code_of s q) y.d)
+    (λ μ r c lr lc. sym (syndrome_same (code_of s p) y.d x.d blocks μ r c lr lc) ∙ same y.d μ r c)
     sum word sum' word' (first_of s p A n sum word x) (first_of s q A n sum' word' y)

@@ -3,8 +3,9 @@ use Rattle.std.proofs.Common.{◌≡◌, ℕ, ◌<◌, true, ◌||◌, ◌⊎◌
 use Rattle.std.specs.List.{Contains}
 use Rattle.std.proofs.lemmas.Bool.{cases_eq, eq-eqb, ne_eqb, or_left, false≢true, true≢false}
 use Rattle.std.proofs.lemmas.Option.{none-some, same_Some}
+use Rattle.refusal.specs.declared.Refusal.TheVariants.{NoShape}
 use Rattle.refusal.specs.declared.Refusal.{Refusal}
-use Rattle.refusal.specs.Numbers.{refused_with}
+use Rattle.refusal.specs.Numbers.{said, refused_with}
 use Rattle.algebra.specs.Code.{Block, Codeword, SameBlock}
 use Rattle.layout.specs.declared.shape.Dimensions.{Dimensions}
 use Rattle.layout.specs.declared.shape.Shape.{Shape}
@@ -17,7 +18,8 @@ use Rattle.receiver.specs.declared.Whole.{Whole as Completed}
 use Rattle.receiver.specs.Meaning.{Meaning}
 use Rattle.receiver.specs.Sound.{Sound}
 use Rattle.receiver.specs.Calls.{Starts, Keeps, Knows, take_refusal, Took}
-use Rattle.receiver.specs.Repairs.{repair_refusal, Completes, Restored, AfterRepair}
+use Rattle.receiver.specs.Repairs.{repair_refusal, Completes, Restored}
+use Rattle.history.specs.Steps.{AfterRepair}
 use Rattle.history.specs.declared.call.Call.{Call}
 use Rattle.history.specs.declared.call.Call.TheVariants.{Take, Repair, Fetch, Count}
 use Rattle.history.specs.Turns.{Turn}
@@ -41,7 +43,7 @@ repair_inside m s i work is pass = grind (arith, is, pass)
 
 -- a packet is taken only while a shape is set
 shape_there : (bits : ℕ) (m : Meaning) (i j : ℕ) (ws : List ℕ) → None ≡ take_refusal bits m (packet i j ws) → m.shape ≡ None → ⊥
-shape_there bits m i j ws q e = none-some (10, []) (q ∙ ap (λ o. take_refusal bits (record m { shape = o }) (packet i j ws)) e)
+shape_there bits m i j ws q e = none-some (said NoShape) (q ∙ ap (λ o. take_refusal bits (record m { shape = o }) (packet i j ws)) e)
 
 module _ (P : Board) where
   -- a full block stays full if its slots do, and the codewords that agree
@@ -163,7 +165,7 @@ module _ (P : Board) where
     now_whole i a e = or_left _ _ (eq-eqb a i e)
 
     -- a block is completed
-    completed : (s : Shape) (i : ℕ) (h : Grid) → i < s.blocks → Kept P s l m.grid → Completes s P.product m.grid i h → Kept P s (completing l i) h
+    completed : (s : Shape) (i : ℕ) (h : Grid) → i < s.blocks → Kept P s l m.grid → Completes (code_of s P.product) m.grid i h → Kept P s (completing l i) h
     completed s i h inside K D = record {
       held = λ a q vs f.
           let k = K.held a q vs f in (
@@ -190,15 +192,15 @@ module _ (P : Board) where
     }
 
     -- a repair that makes a block whole
-    restores : (i n : ℕ) (work run : List ℕ) (after : Meaning) → Restored P.product m i work run n after → Linked P (completing l i) after
-    restores i n work run after R = record {
+    restores : (i n : ℕ) (work : List ℕ) (after : Meaning) → repair_refusal m i work ≡ None → Restored P.product m i n after → Linked P (completing l i) after
+    restores i n work after pass R = record {
       capacity_is = R.capacity_same ∙ L.capacity_is;
       shape_is = L.shape_is ∙ ap present (sym R.shape_same);
       blank = λ e. absurd (none-some R.s (sym e ∙ R.shape_same ∙ R.shape_is));
       kept = λ s e.
           let same : R.s ≡ s = same_Some _ _ (sym R.shape_is ∙ sym R.shape_same ∙ e) in
           subst (λ (t : Shape). Kept P t (completing l i) after.grid) same
-          (completed R.s i after.grid (repair_inside m R.s i work R.shape_is R.passed) (L.kept R.s R.shape_is) R.completes);
+          (completed R.s i after.grid (repair_inside m R.s i work R.shape_is pass) (L.kept R.s R.shape_is) R.completes);
     }
 
     -- a call
@@ -210,8 +212,8 @@ module _ (P : Board) where
         let Q : Result Completed Refusal → Type 0 =
         λ r. AfterRepair P.product m i t.before t.after r after → Linked P (after_call l (Repair i) t.before (repaired r)) after in
         let by_said : Q R.said = elim R.said as Q [
-          | Ok w ↦ λ c. restores i w.restored t.before t.after after c
-          | Err e ↦ λ c. elim c [ inl u ↦ stays after u.same | inr u ↦ stays after u.same ]
+          | Ok w ↦ λ c. restores i w.restored t.before after c.answer c.whole
+          | Err e ↦ λ c. stays after c.left
         ] in
         subst (λ a. Linked P (after_call l (Repair i) t.before a) after) (sym R.answer_is) (by_said R.changed)
     makes_linked t (Fetch i j) after sound F = stays after F.same

@@ -1,7 +1,8 @@
 -- From a ledger and a receiver that are linked to the laws of repairs, fetches and counts.
-use Rattle.std.proofs.Common.{◌≡◌, ℕ, ◌+◌, ◌-◌, ◌<◌, ◌⊎◌, List, [], ◌∷◌, Some, None, Ok, Err, Option, Result, sym, refl, ap, ◌∙◌, subst, inl, inr, arith}
+use Rattle.std.proofs.Common.{◌≡◌, ℕ, ◌+◌, ◌-◌, ◌<◌, ◌⊎◌, List, Some, None, Ok, Err, Option, Result, sym, refl, ap, ◌∙◌, subst, inl, inr, arith}
 use Rattle.std.proofs.lemmas.Bool.{cases_Bool}
 use Rattle.std.proofs.lemmas.Option.{none-some, same_Some}
+use Rattle.refusal.specs.declared.Refusal.TheVariants.{Contradictory, NoShape, SlotEmpty, TooFew}
 use Rattle.refusal.specs.declared.Refusal.{Refusal}
 use Rattle.refusal.specs.Numbers.{said, refused_with, or_else}
 use Rattle.algebra.specs.Code.{count}
@@ -14,15 +15,17 @@ use Rattle.receiver.specs.declared.Whole.{Whole as Completed}
 use Rattle.receiver.specs.Meaning.{Meaning}
 use Rattle.receiver.specs.Sound.{Sound}
 use Rattle.receiver.specs.Calls.{held_in, block_refusal, place_refusal, length_refusal, empty_refusal, fetch_refusal, count_refusal, Counted}
-use Rattle.receiver.specs.Blocks.{Contradictory, missing_in, Agrees as GridAgrees}
-use Rattle.receiver.specs.Repairs.{repair_refusal, AfterRepair, Judged}
+use Rattle.code.specs.Codewords.{Contradiction}
+use Rattle.receiver.specs.Blocks.{missing_in, Agrees as GridAgrees}
+use Rattle.receiver.specs.Repairs.{repair_refusal, Judged}
+use Rattle.history.specs.Steps.{AfterRepair}
 use Rattle.history.specs.declared.call.Answer.TheVariants.{Whole, Fetched, Held}
 use Rattle.history.specs.Turns.{Turn, refusal_in, Answers, Refuses, Checked}
 use Rattle.history.specs.Ledger.{Ledger}
 use Rattle.history.specs.Boards.{Board}
 use Rattle.history.specs.Law.{InShape, Agrees, held, Repaired, FetchedAt}
 use Rattle.history.specs.Steps.{repaired, fetched, counted, Repairs, Fetches, Counts}
-use Rattle.history.proofs.Agreeing.{one_moved, several_moved, none_moved, contradictory_moved}
+use Rattle.history.proofs.Agreeing.{one_moved, several_moved, none_moved, contradiction_moved}
 use Rattle.history.proofs.Linked.{Kept, Linked, by_shape, to_slots, to_ledger, agree_slots, agree_ledger, one_whole, slot_from, no_slot, count_held, slot_there, there_slot}
 
 -- What an answer tells of what the receiver returned
@@ -65,7 +68,7 @@ pub checked : (t : Turn) (check : Option (ℕ × List ℕ)) (Law : Type 0) → (
 checked t (Some e) Law refuses law = refuses e refl
 checked t None Law refuses law = law refl
 
-pub in_shape : (P : Board) (l : Ledger) (m : Meaning) (t : Turn) (Law : Shape → Type 0) → Linked P l m → Sound P.bits m.shape m.grid → (m.shape ≡ None → Refuses t (10, []))
+pub in_shape : (P : Board) (l : Ledger) (m : Meaning) (t : Turn) (Law : Shape → Type 0) → Linked P l m → Sound P.bits m.shape m.grid → (m.shape ≡ None → Refuses t (said NoShape))
     → ((s : Shape) → m.shape ≡ Some s → Law s) → InShape P t l.shape Law
 in_shape P l m t Law L sound without within =
     by_shape P l m (λ o. InShape P t o Law) L without (λ s is. (s, refl, (sound s is).0, within s is))
@@ -86,10 +89,10 @@ repair_refused m s i work e is q = grind (arith, is, q)
 
 -- a repair that passes them is refused before its work with 7 alone
 repair_few : (m : Meaning) (s : Shape) (i : ℕ) (work : List ℕ) (e : ℕ × List ℕ) → m.shape ≡ Some s → or_else (block_refusal s i) (run_refusal s (parity_of s + 1) work 0) ≡ None
-    → repair_refusal m i work ≡ Some e → e ≡ (7, [])
+    → repair_refusal m i work ≡ Some e → e ≡ said TooFew
 repair_few m s i work e is q r = grind (arith, is, q, r)
 
-seven_eight : {A : Type 0} {sum word : ℕ} → ◌≡◌ {A = Option (ℕ × List ℕ)} (Some (7, [])) (Some (8, sum ∷ word ∷ [])) → A
+seven_eight : {A : Type 0} {sum word : ℕ} → ◌≡◌ {A = Option (ℕ × List ℕ)} (Some (said TooFew)) (Some (said (Contradictory sum word))) → A
 seven_eight e = let q : ◌≡◌ {A = ℕ} 7 8 = grind (arith, e) in absurd (omega arith)
 
 -- What a repair that passes its checks answers, with what it leaves in its run
@@ -99,11 +102,11 @@ pub record Wholly (s : Shape) (n : ℕ) (had : ℕ) (t : Turn) : Type 0 where
   pub cleared : ZeroRun t.after
 
 pub record Fewly (t : Turn) : Type 0 where
-  pub answer : refusal_in t.answer ≡ Some (7, [])
+  pub answer : refusal_in t.answer ≡ Some (said TooFew)
   pub kept : t.after ≡ t.before
 
 pub record Wrongly (sum word : ℕ) (t : Turn) : Type 0 where
-  pub answer : refusal_in t.answer ≡ Some (8, sum ∷ word ∷ [])
+  pub answer : refusal_in t.answer ≡ Some (said (Contradictory sum word))
   pub cleared : ZeroRun t.after
 
 abbrev Outcome : Shape → ℕ → Turn → Type 0
@@ -123,29 +126,31 @@ module _ (P : Board) (l : Ledger) (m : Meaning) (L : Linked P l m) (sound : Soun
         where
           by : (r : Result Completed Refusal) → R.said ≡ r → AfterRepair P.product m i t.before t.after r after → Outcome s (held P l s i) t
           by (Ok w) e A =
-              let same : A.s ≡ s = same_Some _ _ (sym A.shape_is ∙ is) in
-              let number : count (held_in m.grid i) s.positions + w.restored ≡ s.positions = subst (λ (u : Shape). count (held_in m.grid i) u.positions + w.restored ≡ u.positions) same A.number in
+              let same : A.whole.s ≡ s = same_Some _ _ (sym A.whole.shape_is ∙ is) in
+              let number : count (held_in m.grid i) s.positions + w.restored ≡ s.positions = subst (λ (u : Shape). count (held_in m.grid i) u.positions + w.restored ≡ u.positions) same A.whole.number in
               let had = count_held P s l m.grid K i in
-              inl (w.restored, record { answer = R.answer_is ∙ ap repaired e; number = omega arith; cleared = A.cleared })
-          by (Err f) e A = elim A [
-            | inl u ↦ inr (inl (record { answer = answer_refusal ∙ ap refused_with e ∙ ap Some (repair_few m s i t.before (said f) is pass u.refusal); kept = u.same_work }))
-            | inr u ↦ inr (inr (u.sum, u.word, record { answer = answer_refusal ∙ ap refused_with e ∙ ap Some u.refusal; cleared = u.cleared }))
+              inl (w.restored, record { answer = R.answer_is ∙ ap repaired e; number = omega arith; cleared = A.cleared.0 A.answer })
+          by (Err f) e A = elim A.answer [
+            | inl u ↦ inr (inl (record { answer = answer_refusal ∙ ap refused_with e ∙ ap Some (repair_few m s i t.before (said f) is pass u); kept = A.cleared.1 (said f) u }))
+            | inr u ↦
+                let n = u.1.contradicts in
+                inr (inr (n.sum, n.word, record { answer = answer_refusal ∙ ap refused_with e ∙ ap (λ r. Some (said r)) n.refusal; cleared = A.cleared.0 u.0 }))
           ]
 
-      judged : Judged s P.product m.grid i R.said
+      judged : Judged (code_of s P.product) m.grid i R.said
       judged = R.judged s is (grind (arith, pass)) (grind (arith, pass))
 
       -- a block that is contradictory is not whole
-      moved : (sum word : ℕ) → Contradictory (code_of s P.product) (GridAgrees s P.product m.grid i) (missing_in s m.grid i) sum word
-          → Contradictory (code_of s P.product) (Agrees P l s i) (s.positions - held P l s i) sum word
+      moved : (sum word : ℕ) → Contradiction (code_of s P.product) (GridAgrees (code_of s P.product) m.grid i) (missing_in (code_of s P.product) m.grid i) sum word
+          → Contradiction (code_of s P.product) (Agrees P l s i) (s.positions - held P l s i) sum word
       moved sum word x = elim (cases_Bool (l.whole i)) [
         | inl w ↦
             let o = one_whole P s l m.grid K i w in
             let u = to_slots P s l m.grid K i o.it o.codeword o.agrees in
             absurd (x.none o.it u.0 u.1)
         | inr f ↦
-            subst (λ n. Contradictory (code_of s P.product) (Agrees P l s i) (s.positions - n) sum word) (count_held P s l m.grid K i)
-            (contradictory_moved s P.product (GridAgrees s P.product m.grid i) (Agrees P l s i) (agree_ledger P s l m.grid K i) (agree_slots P s l m.grid K i f) _ sum word x)
+            subst (λ n. Contradiction (code_of s P.product) (Agrees P l s i) (s.positions - n) sum word) (count_held P s l m.grid K i)
+            (contradiction_moved s P.product (GridAgrees (code_of s P.product) m.grid i) (Agrees P l s i) (agree_ledger P s l m.grid K i) (agree_slots P s l m.grid K i f) _ sum word x)
       ]
 
       pub repaired_law : Repaired P l s i t
@@ -154,7 +159,7 @@ module _ (P : Board) (l : Ledger) (m : Meaning) (L : Linked P l m) (sound : Soun
           let q = answer_refusal in
           let p = P.product in
           let A = Agrees P l s i in
-          let B = GridAgrees s p m.grid i in
+          let B = GridAgrees (code_of s p) m.grid i in
           let there = to_slots P s l m.grid K i in
           let back = to_ledger P s l m.grid K i in
           record {
@@ -195,15 +200,15 @@ module _ (P : Board) (l : Ledger) (m : Meaning) (L : Linked P l m) (sound : Soun
     repair_left e q = by R.said refl R.changed
       where
         by : (r : Result Completed Refusal) → R.said ≡ r → AfterRepair P.product m i t.before t.after r after → Refuses t e
-        by (Ok w) is A = absurd (none-some e (sym A.passed ∙ q))
-        by (Err f) is A = elim A [
-          | inl u ↦ (ap refusal_in R.answer_is ∙ refusal_repaired R.said ∙ ap refused_with is ∙ sym u.refusal ∙ q, u.same_work)
-          | inr u ↦ absurd (none-some e (sym u.passed ∙ q))
+        by (Ok w) is A = absurd (none-some e (sym A.answer ∙ q))
+        by (Err f) is A = elim A.answer [
+          | inl u ↦ (ap refusal_in R.answer_is ∙ refusal_repaired R.said ∙ ap refused_with is ∙ sym u ∙ q, A.cleared.1 e q)
+          | inr u ↦ absurd (none-some e (sym u.0 ∙ q))
         ]
 
     pub repair_law : InShape P t l.shape (λ s. Checked t (or_else (block_refusal s i) (run_refusal s (parity_of s + 1) t.before 0)) (Repaired P l s i t))
     repair_law =
-        in_shape P l m t _ L sound (λ is. repair_left (10, []) (grind (arith, is)))
+        in_shape P l m t _ L sound (λ is. repair_left (said NoShape) (grind (arith, is)))
         (λ s is. checked t _ _ (λ e q. repair_left e (repair_refused m s i t.before e is q)) (repaired_law s is))
 
   pub fetch_law : (i j : ℕ) (after : Meaning) → Fetches m i j t after
@@ -213,7 +218,7 @@ module _ (P : Board) (l : Ledger) (m : Meaning) (L : Linked P l m) (sound : Soun
         ap refusal_in F.answer_is ∙ refusal_fetched F.said ∙ F.refusal ∙ q,
         F.copied ∙ fetch_left F.said m i j t.before e (F.refusal ∙ q),
       ) in
-      in_shape P l m t _ L sound (λ is. refuses (10, []) (grind (arith, is)))
+      in_shape P l m t _ L sound (λ is. refuses (said NoShape) (grind (arith, is)))
       (λ s is. checked t _ _ (λ e q. refuses e (fetch_refused m s i j t.before e is q)) (λ q.
       let K = L.kept s is in
       let column : j < s.positions = grind (arith, q) in
@@ -227,13 +232,13 @@ module _ (P : Board) (l : Ledger) (m : Meaning) (L : Linked P l m) (sound : Soun
             let (answered, copied) = given slot.0 slot.1 in
             (answered, slot_there P s l m.grid K i (sound s is).1 j column t.after (slot.1 ∙ ap Some (sym copied)));
         only = λ ws h. sym (given ws (there_slot P s l m.grid K i (sound s is).1 j column ws h)).1;
-        empty = λ n. refuses (23, []) (by_slot ∙ ap empty_refusal (no_slot P s l m.grid K i j column n));
+        empty = λ n. refuses (said SlotEmpty) (by_slot ∙ ap empty_refusal (no_slot P s l m.grid K i j column n));
       }))
 
   pub count_law : (i : ℕ) (after : Meaning) → Counts m i t after → InShape P t l.shape (λ s. Checked t (block_refusal s i) (Answers t (Held (held P l s i))))
   count_law i after C =
       let refuses : (e : ℕ × List ℕ) → count_refusal m i ≡ Some e → Refuses t e = λ e q. (ap refusal_in C.answer_is ∙ refusal_counted C.said ∙ C.refusal ∙ q, C.same_run) in
-      in_shape P l m t (λ s. Checked t (block_refusal s i) (Answers t (Held (held P l s i)))) L sound (λ is. refuses (10, []) (grind (arith, is)))
+      in_shape P l m t (λ s. Checked t (block_refusal s i) (Answers t (Held (held P l s i)))) L sound (λ is. refuses (said NoShape) (grind (arith, is)))
       (λ s is. checked t (block_refusal s i) _ (λ e q. refuses e (grind (arith, is, q))) (λ q.
       let pass : count_refusal m i ≡ None = grind (arith, is, q) in
       let ok = counted_ok C.said (C.refusal ∙ pass) in

@@ -14,7 +14,8 @@ use Rattle.store.specs.Grids.{Grid, packet_or}
 use Rattle.receiver.specs.Meaning.{Meaning}
 use Rattle.receiver.specs.Sound.{Fitted}
 use Rattle.receiver.specs.Calls.{held_in}
-use Rattle.receiver.specs.Blocks.{block_of, One, Agrees as GridAgrees}
+use Rattle.code.specs.Codewords.{One}
+use Rattle.receiver.specs.Blocks.{block_of, Agrees as GridAgrees}
 use Rattle.history.specs.Ledger.{Ledger, opened, Accepted, any_accepted, has}
 use Rattle.history.specs.Boards.{Board}
 use Rattle.history.specs.Law.{Agrees, held, IsThere}
@@ -31,8 +32,8 @@ module _ (P : Board) where
   pub record Full (s : Shape) (l : Ledger) (g : Grid) (i : ℕ) : Type 0 where
     pub inside : i < s.blocks
     pub filled : (j : ℕ) → j < s.positions → (ws : List ℕ) × (g.slots i j ≡ Some ws)
-    pub codeword : Codeword (code_of s P.product) (block_of s g i)
-    pub only : (c : Block) → Codeword (code_of s P.product) c → Agrees P l s i c → SameBlock (code_of s P.product) c (block_of s g i)
+    pub codeword : Codeword (code_of s P.product) (block_of (code_of s P.product) g i)
+    pub only : (c : Block) → Codeword (code_of s P.product) c → Agrees P l s i c → SameBlock (code_of s P.product) c (block_of (code_of s P.product) g i)
 
   pub record Kept (s : Shape) (l : Ledger) (g : Grid) : Type 0 where
     pub held : (i j : ℕ) (ws : List ℕ) → Accepted l i j ws → (g.slots i j ≡ Some ws) × (i < s.blocks) × (j < s.positions)
@@ -75,7 +76,7 @@ match_from false P Q at_true at_false = at_false refl
 -- What the ledger tells of a block is what its slots hold.
 module _ (P : Board) (s : Shape) (l : Ledger) (g : Grid) (K : Kept P s l g) (i : ℕ) where
   -- codewords that agree with the one are those that agree with the other
-  pub to_slots : Moves s P.product (Agrees P l s i) P.product (GridAgrees s P.product g i)
+  pub to_slots : Moves s P.product (Agrees P l s i) P.product (GridAgrees (code_of s P.product) g i)
   to_slots c w a = (
     w,
     λ q ws lt e. elim (cases_Bool (l.whole i)) [
@@ -84,20 +85,20 @@ module _ (P : Board) (s : Shape) (l : Ledger) (g : Grid) (K : Kept P s l g) (i :
     ],
   )
 
-  pub to_ledger : Moves s P.product (GridAgrees s P.product g i) P.product (Agrees P l s i)
+  pub to_ledger : Moves s P.product (GridAgrees (code_of s P.product) g i) P.product (Agrees P l s i)
   to_ledger c w a = (w, λ j ws h. let k = K.held i j ws h in a j ws k.2 k.0)
 
   -- of any blocks, while the block is not whole
-  pub agree_slots : l.whole i ≡ false → (c : Block) → Agrees P l s i c → GridAgrees s P.product g i c
+  pub agree_slots : l.whole i ≡ false → (c : Block) → Agrees P l s i c → GridAgrees (code_of s P.product) g i c
   agree_slots w c a q ws lt e = a q ws (K.found i q ws w e)
 
-  pub agree_ledger : (c : Block) → GridAgrees s P.product g i c → Agrees P l s i c
+  pub agree_ledger : (c : Block) → GridAgrees (code_of s P.product) g i c → Agrees P l s i c
   agree_ledger c a j ws h = let k = K.held i j ws h in a j ws k.2 k.0
 
   -- the codeword of a whole block
   abbrev pub one_whole : l.whole i ≡ true → One (code_of s P.product) (Agrees P l s i)
   one_whole t = let F = K.full i t in record {
-    it = block_of s g i;
+    it = block_of (code_of s P.product) g i;
     codeword = F.codeword;
     agrees = λ j ws h r p lr lp. let k = K.held i j ws h in ap (λ o. packet_in s.words (packet_or o []) r p) k.0;
     only = F.only;

@@ -3,7 +3,8 @@ use Rattle.std.proofs.Common.{◌≡◌, ℕ, ◌-◌, ◌*◌, ◌^◌, ◌<◌
 use Rattle.std.proofs.lemmas.Bool.{cases_Bool, MatchBool-at_true, MatchBool-at_false}
 use Rattle.std.proofs.lemmas.List.{ext_get_or}
 use Rattle.std.proofs.lemmas.Option.{none-some}
-use Rattle.refusal.specs.Numbers.{or_else}
+use Rattle.refusal.specs.declared.Refusal.TheVariants.{BadFrame, Contradictory, NoShape, OtherPacket, SlotEmpty, TooFew}
+use Rattle.refusal.specs.Numbers.{said, or_else}
 use Rattle.galois.specs.Field.{FieldLaws}
 use Rattle.algebra.specs.Code.{Block, Codeword, syndrome}
 use Rattle.layout.specs.declared.shape.Dimensions.{Dimensions}
@@ -24,7 +25,7 @@ use Rattle.history.proofs.Shapes.{same_shape}
 use Rattle.history.proofs.Agreeing.{Moves, one_moved, several_moved, none_moved}
 use Rattle.history.proofs.Products.{same_codeword, same_syndrome}
 use Rattle.history.proofs.Answered.{refused_only}
-use Rattle.history.proofs.Contradicting.{contradictory_only}
+use Rattle.history.proofs.Contradicting.{contradiction_only}
 use Rattle.history.proofs.Linked.{match_from}
 
 -- runs of zeros of one length are equal
@@ -68,10 +69,10 @@ module _ (P Q : Board) (E : Alike P Q) (l : Ledger) (s : Shape) (i : ℕ) where
   ]
 
 -- an answer that says whole, or 8, is not 7
-not_few : (a : Answer) (n : ℕ) → a ≡ Whole n → refusal_in a ≢ Some (7, [])
+not_few : (a : Answer) (n : ℕ) → a ≡ Whole n → refusal_in a ≢ Some (said TooFew)
 not_few a n e f = none-some _ (sym (ap refusal_in e) ∙ f)
 
-not_seven : (a : Answer) (sum word : ℕ) → refusal_in a ≡ Some (8, sum ∷ word ∷ []) → refusal_in a ≢ Some (7, [])
+not_seven : (a : Answer) (sum word : ℕ) → refusal_in a ≡ Some (said (Contradictory sum word)) → refusal_in a ≢ Some (said TooFew)
 not_seven a sum word e f = let z = sym f ∙ e in let q : ◌≡◌ {A = ℕ} 7 8 = grind (arith, z) in omega arith
 
 -- one call, to two receivers with the same ledger
@@ -94,7 +95,7 @@ module _ (P Q : Board) (E : Alike P Q) (capacity : P.capacity ≡ Q.capacity) (l
     same_checked None Law Law' h it it' = h it it'
 
     same_in_shape : (o : Option Dimensions) (Law Law' : Shape → Type 0) → ((s : Shape) → Law s → Law' s → Same) → InShape P t o Law → InShape Q t' o Law' → Same
-    same_in_shape None Law Law' h r r' = same_refusal (10, []) r r'
+    same_in_shape None Law Law' h r r' = same_refusal (said NoShape) r r'
     same_in_shape (Some d) Law Law' h (s, dims, rows, it) (s', dims', rows', it') =
         h s it (subst Law' (same_shape s' s (dims' ∙ sym dims)) it')
 
@@ -114,7 +115,7 @@ module _ (P Q : Board) (E : Alike P Q) (capacity : P.capacity ≡ Q.capacity) (l
                 | inl e' ↦ T.fresh.1 (T'.fresh.0 e') ∙ sym e'
                 | inr o' ↦ elim o' [
                   | inl e' ↦ T.known.1 (there Q P (alike_back P Q E) l s i j ws (T'.known.0 e')) ∙ sym e'
-                  | inr e' ↦ refused_only answer answer' (12, []) e e'
+                  | inr e' ↦ refused_only answer answer' (said OtherPacket) e e'
                 ]
               ]
             ]
@@ -123,7 +124,7 @@ module _ (P Q : Board) (E : Alike P Q) (capacity : P.capacity ≡ Q.capacity) (l
       same_fetched : (j : ℕ) → FetchedAt P l s i j t → FetchedAt Q l s i j t' → Same
       same_fetched j F F' = elim (cases_Bool (has l i j)) [
         | inl h ↦ let d = F.done h in (d.0 ∙ sym (F'.done h).0, F'.only after (there P Q E l s i j after d.1))
-        | inr n ↦ same_refusal (23, []) (F.empty n) (F'.empty n)
+        | inr n ↦ same_refusal (said SlotEmpty) (F.empty n) (F'.empty n)
       ]
 
       same_repaired : Repaired P l s i t → Repaired Q l s i t' → Same
@@ -135,13 +136,13 @@ module _ (P Q : Board) (E : Alike P Q) (capacity : P.capacity ≡ Q.capacity) (l
         | inr o ↦ elim o [
           | inl e ↦
               let e' = R'.few.1 (several_moved s P.product Q.product (Agrees P l s i) (Agrees Q l s i) (moves P Q E l s i) (moves_back P Q E l s i) (R.few.0 e)) in
-              (refused_only answer answer' (7, []) e e', R.kept e ∙ sym (R'.kept e'))
+              (refused_only answer answer' (said TooFew) e e', R.kept e ∙ sym (R'.kept e'))
           | inr x ↦
               let x' = R'.contradictory.1 (none_moved s P.product Q.product (Agrees P l s i) (Agrees Q l s i) (moves P Q E l s i) (moves_back P Q E l s i) (R.contradictory.0 x)) in
-              let (sum, word) = contradictory_only s P.product Q.product (Agrees P l s i) (s.positions - held P l s i) x.0 x.1 x'.0 x'.1
+              let (sum, word) = contradiction_only s P.product Q.product (Agrees P l s i) (s.positions - held P l s i) x.0 x.1 x'.0 x'.1
               (E.sums s) (R.values x) (R'.values x') in
-              let e' : refusal_in answer' ≡ Some (8, x.0 ∷ x.1 ∷ []) = x'.2 ∙ ap (λ a. Some (8, a ∷ x'.1 ∷ [])) (sym sum) ∙ ap (λ b. Some (8, x.0 ∷ b ∷ [])) (sym word) in (
-                refused_only answer answer' (8, x.0 ∷ x.1 ∷ []) x.2 e',
+              let e' : refusal_in answer' ≡ Some (said (Contradictory x.0 x.1)) = x'.2 ∙ ap (λ a. Some (said (Contradictory a x'.1))) (sym sum) ∙ ap (λ b. Some (said (Contradictory x.0 b))) (sym word) in (
+                refused_only answer answer' (said (Contradictory x.0 x.1)) x.2 e',
                 zero_same after after' long (R.cleared (not_seven answer x.0 x.1 x.2)) (R'.cleared (not_seven answer' x'.0 x'.1 x'.2)),
               )
         ]
@@ -151,7 +152,7 @@ module _ (P Q : Board) (E : Alike P Q) (capacity : P.capacity ≡ Q.capacity) (l
           long = R.long ∙ sym R'.long
 
     same_sight : (f : Sight) → TakeLaw P l t f → TakeLaw Q l t' f → Same
-    same_sight (refused e) T T' = same_refusal (9, []) T T'
+    same_sight (refused e) T T' = same_refusal (said BadFrame) T T'
     same_sight (shape d) T T' =
         same_checked _ _ _ (same_answered Shaped) T
         (subst (λ n. Checked t' (or_else (shape_refusal n d) (format_refusal P.capacity d.blocks d.positions (d.rows * d.words))) (Answers t' Shaped)) (sym E.width)

@@ -41,4 +41,4 @@ pub same_packets : (s : Shape) (xs ys : List ℕ) → length xs ≡ packet_of s 
     → ((r c : ℕ) → r < s.rows → c < s.words → packet_in s.words xs r c ≡ packet_in s.words ys r c) → xs ≡ ys
 same_packets s xs ys lx ly e = ext_get_or 0 xs ys (lx ∙ sym ly) (λ k h.
     let lt : k < packet_of s = omega arith in
-    ap (λ m. get_or xs m 0) (sym (place s k)) ∙ e (k / s.words) (k % s.words) (row_lt s k lt) (column_lt s k) ∙ ap (λ m. get_or ys m 0) (place s k))
+    ap (λ m. get_or xs m 0) (sym (place s.words k)) ∙ e (k / s.words) (k % s.words) (row_lt s.rows s.words s.sizes.2 k lt) (column_lt s.words s.sizes.2 k) ∙ ap (λ m. get_or ys m 0) (place s.words k))

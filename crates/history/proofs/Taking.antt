@@ -1,7 +1,8 @@
 -- From a ledger and a receiver that are linked to the law of a frame.
-use Rattle.std.proofs.Common.{◌≡◌, ℕ, ◌<◌, List, [], is_some, Some, None, Ok, Err, Option, Result, sym, refl, ap, ◌∙◌, inl, inr, arith}
+use Rattle.std.proofs.Common.{◌≡◌, ℕ, ◌<◌, List, is_some, Some, None, Ok, Err, Option, Result, sym, refl, ap, ◌∙◌, inl, inr, arith}
 use Rattle.std.proofs.lemmas.Bool.{cases_Bool, cond-true, cond-false, true≢false, false≢true}
 use Rattle.std.proofs.lemmas.Option.{none-some, same_Some}
+use Rattle.refusal.specs.declared.Refusal.TheVariants.{BadFrame, NoShape, OtherPacket}
 use Rattle.refusal.specs.declared.Refusal.{Refusal}
 use Rattle.refusal.specs.Numbers.{said, refused_with, or_else}
 use Rattle.layout.specs.declared.shape.Dimensions.{Dimensions}
@@ -29,7 +30,7 @@ refusal_taken (Ok packet_held) = refl
 refusal_taken (Err e) = refl
 
 -- what words that are no frame are refused with
-no_frame : (ws : List ℕ) (e : ℕ × List ℕ) → parse ws ≡ refused e → e ≡ (9, [])
+no_frame : (ws : List ℕ) (e : ℕ × List ℕ) → parse ws ≡ refused e → e ≡ said BadFrame
 no_frame ws e q = elim (cases_Bool (is_shape ws)) [
   | inl t ↦ let z = sym (cond-true (is_shape ws) _ _ t) ∙ q in absurd (cc)
   | inr f ↦ elim (cases_Bool (is_packet ws)) [
@@ -43,7 +44,7 @@ pub record Other (slot : Option (List ℕ)) (ws : List ℕ) (e : ℕ × List ℕ
   pub words : List ℕ
   pub filled : slot ≡ Some words
   pub apart : words ≡ ws → ⊥
-  pub twelve : e ≡ (12, [])
+  pub twelve : e ≡ said OtherPacket
 
 other_slot : (slot : Option (List ℕ)) (ws : List ℕ) (e : ℕ × List ℕ) → Some e ≡ other_refusal slot ws → Other slot ws e
 other_slot None ws e q = absurd (none-some e (sym q))
@@ -112,7 +113,7 @@ module _ (P : Board) (l : Ledger) (m : Meaning) (L : Linked P l m) (sound : Soun
 
     packet_law : (i j : ℕ) (ws : List ℕ) → refused_with r ≡ take_refusal P.bits m (packet i j ws) → TookPacket m i j ws r after → TakeLaw P l t (packet i j ws)
     packet_law i j ws q T =
-        in_shape P l m t _ L sound (λ is. refuses _ q (10, []) (grind (arith, is)))
+        in_shape P l m t _ L sound (λ is. refuses _ q (said NoShape) (grind (arith, is)))
         (λ s is. checked t _ _ (λ e f. refuses _ q e (packet_refused m s i j ws e is f)) (λ f.
         place_law s is i j (grind (arith, f)) ws r after a (q ∙ packet_passes m s i j ws is f) T))
 
@@ -122,8 +123,8 @@ module _ (P : Board) (l : Ledger) (m : Meaning) (L : Linked P l m) (sound : Soun
     shaped d (Ok packet_held) q T = absurd T
     shaped d (Err x) q T = absurd (none-some _ (sym q))
 
-    sight_law : (f : Sight) → ((e : ℕ × List ℕ) → f ≡ refused e → e ≡ (9, [])) → refused_with r ≡ take_refusal P.bits m f → Took m f r after → TakeLaw P l t f
-    sight_law (refused e) nine q T = refuses _ q (9, []) (ap Some (nine e refl))
+    sight_law : (f : Sight) → ((e : ℕ × List ℕ) → f ≡ refused e → e ≡ said BadFrame) → refused_with r ≡ take_refusal P.bits m f → Took m f r after → TakeLaw P l t f
+    sight_law (refused e) nine q T = refuses _ q (said BadFrame) (ap Some (nine e refl))
     sight_law (shape d) nine q T =
         let check = q ∙ ap (λ n. start_refusal P.bits (record m { capacity = n }) d) L.capacity_is in
         checked t _ _ (refuses _ check) (λ f. (a ∙ shaped d r (check ∙ f) T, same_run))

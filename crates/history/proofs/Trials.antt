@@ -10,7 +10,7 @@ use Rattle.layout.specs.Sizes.{Packets}
 use Rattle.layout.specs.Blocks.{code_of}
 use Rattle.receiver.specs.Meaning.{Meaning}
 use Rattle.receiver.specs.Sound.{Sound}
-use Rattle.receiver.specs.Blocks.{One}
+use Rattle.code.specs.Codewords.{One}
 use Rattle.history.specs.declared.call.Call.{Call}
 use Rattle.history.specs.declared.call.Call.TheVariants.{Take, Repair, Fetch, Count}
 use Rattle.history.specs.Turns.{Turn}

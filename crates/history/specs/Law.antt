@@ -2,9 +2,10 @@
 -- codeword that agrees with what was accepted for it. Two boards with equal products recover the same codeword from enough of its packets; if the
 -- capacities of their stores are equal too, they answer the same calls alike, word by word.
 -- P and Q are boards, l is a ledger, s a shape, i a block, j a position, t a turn, c a codeword. Refusals have the numbers of docs/RULES.md.
-use Rattle.std.specs.Prelude.{◌≡◌, ℕ, ◌+◌, ◌-◌, ◌*◌, ◌<◌, ◌≤◌, true, false, ◌⊎◌, ◌↔◌, List, [], ◌∷◌, ◌++◌, length, Some, None, Option, ◌≢◌, MatchBool}
+use Rattle.std.specs.Prelude.{◌≡◌, ℕ, ◌+◌, ◌-◌, ◌*◌, ◌<◌, ◌≤◌, true, false, ◌⊎◌, ◌↔◌, List, ◌∷◌, ◌++◌, length, Some, None, Option, ◌≢◌, MatchBool}
 use Rattle.std.specs.List.{AllByRecursion}
-use Rattle.refusal.specs.Numbers.{or_else}
+use Rattle.refusal.specs.declared.Refusal.TheVariants.{BadFrame, NoShape, OtherPacket, SlotEmpty}
+use Rattle.refusal.specs.Numbers.{said, or_else}
 use Rattle.algebra.specs.Code.{Block, Codeword, SamePacket, count}
 use Rattle.layout.specs.declared.shape.Dimensions.{Dimensions}
 use Rattle.layout.specs.declared.shape.Shape.{Shape}
@@ -15,7 +16,7 @@ use Rattle.layout.specs.Blocks.{code_of, packet_in, ZeroRun}
 use Rattle.frame.specs.Frames.{Sight, shape, packet, refused, parse}
 use Rattle.store.specs.Grids.{format_refusal}
 use Rattle.receiver.specs.Calls.{block_refusal, place_refusal, length_refusal}
-use Rattle.receiver.specs.Blocks.{One, Several, NoCodeword, Contradictory}
+use Rattle.code.specs.Codewords.{One, Several, NoCodeword, Contradiction}
 use Rattle.history.specs.declared.call.Call.{Call}
 use Rattle.history.specs.declared.call.Call.TheVariants.{Take, Repair, Fetch, Count}
 use Rattle.history.specs.declared.call.Answer.TheVariants.{Shaped, Fresh, Known, Fetched, Held}
@@ -27,7 +28,7 @@ use Rattle.history.specs.Boards.{Board, SameProduct}
 
 -- refusal 10 while no shape is set; else the shape has the arithmetic's width, and a law holds of it
 abbrev pub InShape : Board → Turn → Option Dimensions → (Shape → Type 0) → Type 0
-InShape P t None Law = Refuses t (10, [])
+InShape P t None Law = Refuses t (said NoShape)
 InShape P t (Some d) Law = (s : Shape) × (dimensions_of s ≡ d) × (s.rows ≡ P.bits) × Law s
 
 module _ (P : Board) (l : Ledger) (s : Shape) (i : ℕ) where
@@ -52,7 +53,7 @@ module _ (P : Board) (l : Ledger) (s : Shape) (i : ℕ) where
   pub record TakenAt (j : ℕ) (ws : List ℕ) (t : Turn) : Type 0 where
     pub fresh : (t.answer ≡ Fresh) ↔ (has l i j ≡ false)
     pub known : (t.answer ≡ Known) ↔ IsThere j ws
-    pub other : (t.answer ≡ Fresh) ⊎ (t.answer ≡ Known) ⊎ (refusal_in t.answer ≡ Some (12, []))
+    pub other : (t.answer ≡ Fresh) ⊎ (t.answer ≡ Known) ⊎ (refusal_in t.answer ≡ Some (said OtherPacket))
     pub kept : t.after ≡ t.before
 
   -- a repair says whole, too few (7) or contradictory (8) exactly as one, several or no codeword agrees
@@ -63,7 +64,7 @@ module _ (P : Board) (l : Ledger) (s : Shape) (i : ℕ) where
     pub other : SaysWhole t ⊎ SaysTooFew t ⊎ SaysContradictory t
     -- the number is of the packets that were missing; the sum and the word are the first that contradict
     pub number : (says : SaysWhole t) → says.0 + held ≡ s.positions
-    pub values : (says : SaysContradictory t) → Contradictory (code_of s P.product) Agrees (s.positions - held) says.0 says.1
+    pub values : (says : SaysContradictory t) → Contradiction (code_of s P.product) Agrees (s.positions - held) says.0 says.1
     -- the work run keeps its length; after too few it is as it was, and else zero
     pub long : length t.after ≡ length t.before
     pub kept : SaysTooFew t → t.after ≡ t.before
@@ -73,11 +74,11 @@ module _ (P : Board) (l : Ledger) (s : Shape) (i : ℕ) where
   pub record FetchedAt (j : ℕ) (t : Turn) : Type 0 where
     pub done : has l i j ≡ true → (t.answer ≡ Fetched) × IsThere j t.after
     pub only : (ws : List ℕ) → IsThere j ws → ws ≡ t.after
-    pub empty : has l i j ≡ false → Refuses t (23, [])
+    pub empty : has l i j ≡ false → Refuses t (said SlotEmpty)
 
 -- a frame is refused with 9; with a shape 1 to 4 by its dimensions, then 20 by the store; with a packet 10, 5, 11
 abbrev pub TakeLaw : Board → Ledger → Turn → Sight → Type 0
-TakeLaw P l t (refused e) = Refuses t (9, [])
+TakeLaw P l t (refused e) = Refuses t (said BadFrame)
 TakeLaw P l t (shape d) =
     Checked t (or_else (shape_refusal P.bits d) (format_refusal P.capacity d.blocks d.positions (d.rows * d.words))) (Answers t Shaped)
 TakeLaw P l t (packet i j ws) =

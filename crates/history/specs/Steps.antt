@@ -1,8 +1,9 @@
 -- The calls of a transcript as a receiver makes them, by the contracts of its calls alone. What the functions that make them promise
 -- is said by these; the law does not name them.
-use Rattle.std.specs.Prelude.{◌≡◌, ℕ, List, [], ◌∷◌, length, Ok, Err, Result}
+use Rattle.std.specs.Prelude.{◌≡◌, ℕ, List, [], ◌∷◌, length, Ok, Err, Result, IfOk, IfErr}
 use Rattle.refusal.specs.declared.Refusal.{Refusal}
 use Rattle.refusal.specs.Numbers.{refused_with}
+use Rattle.layout.specs.Checks.{CheckedFirst, Cleared}
 use Rattle.frame.specs.Frames.{parse}
 use Rattle.store.specs.Grids.{after_get}
 use Rattle.receiver.specs.declared.Taken.{Taken}
@@ -11,7 +12,7 @@ use Rattle.receiver.specs.declared.Whole.{Whole as Completed}
 use Rattle.receiver.specs.Meaning.{Meaning}
 use Rattle.receiver.specs.Sound.{Sound}
 use Rattle.receiver.specs.Calls.{take_refusal, Took, fetch_refusal, count_refusal, Counted}
-use Rattle.receiver.specs.Repairs.{AfterRepair, Judges}
+use Rattle.receiver.specs.Repairs.{repair_refusal, Restored, Conflicts, Judges}
 use Rattle.history.specs.declared.call.Call.{Call}
 use Rattle.history.specs.declared.call.Call.TheVariants.{Take, Repair, Fetch, Count}
 use Rattle.history.specs.declared.call.Answer.{Answer}
@@ -46,6 +47,13 @@ pub record Takes (bits : ℕ) (m : Meaning) (t : Turn) (after : Meaning) : Type 
   pub refusal : refused_with said ≡ take_refusal bits m (parse t.before)
   pub took : Took m (parse t.before) said after
   pub same_run : t.after ≡ t.before
+
+-- what a repair does, by its outcome
+pub record AfterRepair (prod : ℕ → ℕ → ℕ) (m : Meaning) (i : ℕ) (work work' : List ℕ) (r : Result Completed Refusal) (after : Meaning) : Type 0 where
+  pub whole : IfOk r (λ w. Restored prod m i w.restored after)
+  pub answer : CheckedFirst (repair_refusal m i work) (Conflicts prod m i) r
+  pub left : IfErr r (λ e. after ≡ m)
+  pub cleared : Cleared (repair_refusal m i work) work work'
 
 pub record Repairs (prod : ℕ → ℕ → ℕ) (m : Meaning) (i : ℕ) (t : Turn) (after : Meaning) : Type 0 where
   pub said : Result Completed Refusal

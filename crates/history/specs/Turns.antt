@@ -1,5 +1,6 @@
 -- A transcript: the calls that were made, one after another, with their runs and their answers.
 use Rattle.std.specs.Prelude.{◌≡◌, ℕ, List, [], ◌∷◌, map, Some, None, Option}
+use Rattle.refusal.specs.declared.Refusal.TheVariants.{Contradictory, TooFew}
 use Rattle.refusal.specs.Numbers.{said}
 use Rattle.history.specs.declared.call.Call.{Call}
 use Rattle.history.specs.declared.call.Answer.{Answer}
@@ -41,10 +42,10 @@ abbrev pub SaysWhole : Turn → Type 0
 SaysWhole t = (n : ℕ) × (t.answer ≡ Whole n)
 
 abbrev pub SaysTooFew : Turn → Type 0
-SaysTooFew t = refusal_in t.answer ≡ Some (7, [])
+SaysTooFew t = refusal_in t.answer ≡ Some (said TooFew)
 
 abbrev pub SaysContradictory : Turn → Type 0
-SaysContradictory t = (sum word : ℕ) × (refusal_in t.answer ≡ Some (8, sum ∷ word ∷ []))
+SaysContradictory t = (sum word : ℕ) × (refusal_in t.answer ≡ Some (said (Contradictory sum word)))
 
 -- an answer, or a refusal, and the run is as it was
 abbrev pub Answers : Turn → Answer → Type 0

@@ -7,9 +7,8 @@ ghost use Rattle.history.specs.Law.{TwoBoards, Together};
 use crate::call::Entry;
 use crate::make::make_all;
 use field::Arithmetic;
-use field::octet::OctetTables;
+use field::octet::TabledOctet;
 use field::stepped::SteppedOctet;
-use field::tabled::Tabled;
 use receiver::Receiver;
 use store::SlotStore;
 
@@ -20,11 +19,9 @@ use store::SlotStore;
 /// called whole is the one codeword that agrees with the packets accepted for it; and where the products of the arithmetics are equal,
 /// both boards recover a codeword of which each accepted enough packets, and, if the capacities of the stores are equal too, give the
 /// same answers to the same calls.
-pub fn trial<F: Arithmetic + Drop, S: SlotStore + Drop, G: Arithmetic + Drop, T: SlotStore + Drop>(
-    first: F,
+pub fn trial<F: Arithmetic, G: Arithmetic, S: SlotStore + Drop, T: SlotStore + Drop>(
     first_store: S,
     first_entries: &mut [Entry],
-    second: G,
     second_store: T,
     second_entries: &mut [Entry],
 )
@@ -36,8 +33,8 @@ pub fn trial<F: Arithmetic + Drop, S: SlotStore + Drop, G: Arithmetic + Drop, T:
     ensures first_calls { calls first_entries.new ≡ calls first_entries.old }
     ensures second_calls { calls second_entries.new ≡ calls second_entries.old }
 {
-    let mut one = Receiver::new(first, first_store);
-    let mut other = Receiver::new(second, second_store);
+    let mut one = Receiver::<F, _>::new(first_store);
+    let mut other = Receiver::<G, _>::new(second_store);
     make_all(&mut one, first_entries);
     make_all(&mut other, second_entries);
 }
@@ -63,14 +60,9 @@ pub fn trial_of_octets<S: SlotStore + Drop, T: SlotStore + Drop>(
     ensures first_calls { calls first_entries.new ≡ calls first_entries.old }
     ensures second_calls { calls second_entries.new ≡ calls second_entries.old }
 {
-    let tabled = Tabled {
-        tables: OctetTables,
-    };
-    trial(
-        SteppedOctet,
+    trial::<SteppedOctet, TabledOctet, _, _>(
         first_store,
         first_entries,
-        tabled,
         second_store,
         second_entries,
     );

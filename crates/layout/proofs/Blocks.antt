@@ -16,23 +16,23 @@ module _ (s : Shape) where
   pub packets_are : (n : ℕ) (run : List ℕ) → Packets s n run → packets_in s run ≡ n
   packets_are n run e = ap (λ k. k / packet_of s) e ∙ ap (λ k. k / packet_of s) (sym (add-zero _)) ∙ div-mul-add n (packet_of s) 0 packet_pos
 
+-- the place of a word of a packet, and back
+pub row_lt : (rows words : ℕ) → 0 < words → (j : ℕ) → j < rows * words → j / words < rows
+row_lt rows words some j h = div_below j words rows some h
+
+pub column_lt : (words : ℕ) → 0 < words → (j : ℕ) → j % words < words
+column_lt words some j = mod_below j words some
+
+pub place : (words j : ℕ) → j / words * words + j % words ≡ j
+place words j = div-add-mod' j words
+
 -- packets that are not empty
 module _ (C : Code) (some : 0 < size_of C) where
-  words_pos : 0 < C.words
+  pub words_pos : 0 < C.words
   words_pos = elim (ℕ_discrete C.words 0) [
     | yes e ↦ absurd (let z : C.rows * C.words ≡ 0 = ap (λ w. C.rows * w) e ∙ mul-zero C.rows in omega arith)
     | no e ↦ omega arith
   ]
-
-  -- the place of a word of a packet, and back
-  pub row_lt : (j : ℕ) → j < size_of C → j / C.words < C.rows
-  row_lt j h = div_below j C.words C.rows words_pos h
-
-  pub column_lt : (j : ℕ) → j % C.words < C.words
-  column_lt j = mod_below j C.words words_pos
-
-  pub place : (j : ℕ) → j / C.words * C.words + j % C.words ≡ j
-  place j = div-add-mod' j C.words
 
   pub same_runs : (n : ℕ) (xs ys : List ℕ) → Run C n xs → Run C n ys
       → ((q i c : ℕ) → q < n → i < C.rows → c < C.words → block_at C xs q i c ≡ block_at C ys q i c) → xs ≡ ys
@@ -41,9 +41,9 @@ module _ (C : Code) (some : 0 < size_of C) where
       let q = k / p in
       let j = k % p in
       let lt : j < p = mod_below k p some in
-      let at : q * p + (j / C.words * C.words + j % C.words) ≡ k = ap (λ m. q * p + m) (place j) ∙ div-add-mod' k p in
+      let at : q * p + (j / C.words * C.words + j % C.words) ≡ k = ap (λ m. q * p + m) (place C.words j) ∙ div-add-mod' k p in
       ap (λ m. get_or xs m 0) (sym at)
-      ∙ e q (j / C.words) (j % C.words) (div_below k p n some (omega arith)) (row_lt j lt) (column_lt j)
+      ∙ e q (j / C.words) (j % C.words) (div_below k p n some (omega arith)) (row_lt C.rows C.words words_pos j lt) (column_lt C.words words_pos j)
       ∙ ap (λ m. get_or ys m 0) at)
 
 -- the front of a run of zeros
