@@ -8,7 +8,7 @@ use native.Mathlib.Decide.{ℕ_discrete}
 use Rattle.std.proofs.Math.Facts.{Fits-lt-pow}
 use Rattle.std.proofs.lemmas.Nat.{from_be_bytes-to_be_bytes_4}
 use Rattle.layout.proofs.Parts.{part_written, part_kept}
-use Rattle.guyekpan.specs.Bytes.{numbers, words_of, positions_of}
+use Rattle.guyekpan.specs.Bytes.{numbers, words_of, positions_of, Padded}
 
 pub numbers_length : (w : Width) (n : ℕ) (bytes : List ℕ) → length (numbers w n bytes) ≡ n
 unfolding numbers
@@ -94,7 +94,7 @@ module _ (bytes run : List ℕ) (size : length bytes ≡ 4 * length run) where
 
 -- the numbers in a string, taken from an array that begins with them
 pub taken : (w : Width) (bytes array : List ℕ) (n m room : ℕ) → length (take n array) ≡ n → n ≤ room → m ≡ n
-    → ((i : ℕ) → i < room → get_or array i 0 ≡ get_or (numbers w m bytes) i 0) → take n array ≡ numbers w m bytes
+    → Padded room (numbers w m bytes) array → take n array ≡ numbers w m bytes
 taken w bytes array n m room long fits count each =
     ext_get_or 0 (take n array) (numbers w m bytes) (long ∙ sym (numbers_length w m bytes ∙ count))
     (λ i lt. get_or-take n array i 0 (omega arith) ∙ each i (omega arith))

@@ -14,7 +14,7 @@ use Rattle.layout.specs.Made.{dimensions_of, Listed}
 use Rattle.layout.proofs.Passes.{passed, pass_both, width_ok, run_ok, losses_ok}
 use Rattle.code.specs.Calls.{AfterRepair, repair_refusal}
 use Rattle.guyekpan.specs.Bytes.{words_of, positions_of}
-use Rattle.guyekpan.specs.Host.{octet, named, host_check_refusal, Positions, HostRepaired}
+use Rattle.guyekpan.specs.Host.{octet, host_check_refusal, Positions, HostRepaired}
 
 lost_below : (s : Shape) (xs : List ℕ) (l : LossList) → Listed s xs l → LostBelow l s.positions
 lost_below s xs l listed k lt =
@@ -22,8 +22,8 @@ lost_below s xs l listed k lt =
     let below = listed.order.1 k (omega arith) in
     subst (λ z. z < s.positions) (sym (sym (get_or-take l.len l.at k 0 lt) ∙ ap (λ ys. get_or ys k 0) listed.at)) below
 
-module _ (m n k w : ℕ) (s : Shape) (l : LossList) (block losses work work' : List ℕ) (of : dimensions_of s ≡ named m n k w) (eight : s.rows ≡ 8)
-    (checked : host_check_refusal m n k w block work ≡ None) (positions : Positions s.positions losses) (listed : Listed s (positions_of losses) l) (cleared : ZeroRun work')
+module _ (d : Dimensions) (s : Shape) (l : LossList) (block losses work work' : List ℕ) (of : dimensions_of s ≡ d) (eight : s.rows ≡ 8)
+    (checked : host_check_refusal d block work ≡ None) (positions : Positions s.positions losses) (listed : Listed s (positions_of losses) l) (cleared : ZeroRun work')
     (xs xs' ws ws' : List ℕ) (spell : xs ≡ words_of block) (whole : Packets s s.positions xs) (room : Packets s (parity_of s + 1) ws) where
   -- nothing is refused before the work
   unrefused : repair_refusal 8 s xs l ws ≡ None
@@ -31,11 +31,11 @@ module _ (m n k w : ℕ) (s : Shape) (l : LossList) (block losses work work' : L
       pass_both _ _ (pass_both _ _ (width_ok 8 s eight) (pass_both _ _ (run_ok s s.positions xs 0 whole) (run_ok s (parity_of s + 1) ws 1 room)))
       (losses_ok s l (lost_below s (positions_of losses) l listed) (let few = listed.enough in let len = listed.len in omega arith))
 
-  named_positions : Positions n losses
+  named_positions : Positions d.positions losses
   named_positions = rw (ap (λ d. Dimensions.positions d) of) at positions
 
   pub repaired : (block' : List ℕ) (r : Result (Unit {0}) Refusal) → words_of block' ≡ xs' → is_ok r ≡ true → AfterRepair 8 s octet l xs xs' ws ws' r
-      → HostRepaired m n k w block block' losses work work' r
+      → HostRepaired d losses block block' work work' r
   repaired block' (Ok u) back ok a = record {
     shape = s;
     of = of;
@@ -48,7 +48,7 @@ module _ (m n k w : ℕ) (s : Shape) (l : LossList) (block losses work work' : L
   }
   repaired block' (Err e) back ok a = absurd (true_false false ok refl)
 
-  pub unrepaired : (r : Result (Unit {0}) Refusal) → is_ok r ≡ false → AfterRepair 8 s octet l xs xs' ws ws' r → HostRepaired m n k w block block losses work work' r
+  pub unrepaired : (r : Result (Unit {0}) Refusal) → is_ok r ≡ false → AfterRepair 8 s octet l xs xs' ws ws' r → HostRepaired d losses block block work work' r
   unrepaired (Ok u) not a = absurd (true_false true refl not)
   unrepaired (Err e) not a = elim a [
     | inl refused ↦ passed (repair_refusal 8 s xs l ws) (said e) unrefused (sym refused.refusal)

@@ -1,5 +1,5 @@
 -- What a host in C is answered, and what its strings hold afterwards.
-use Rattle.std.specs.Prelude.{◌≡◌, ℕ, ◌+◌, ◌-◌, ◌*◌, ◌<◌, Bool, cond, ◌⊎◌, List, [], ◌∷◌, length, Some, None, Ok, Err, Option, Result, ◌==◌, nat_le}
+use Rattle.std.specs.Prelude.{◌≡◌, ℕ, ◌+◌, ◌-◌, ◌*◌, ◌<◌, ◌≤◌, Bool, cond, ◌⊎◌, List, [], ◌∷◌, length, Some, None, Ok, Err, Option, Result, ◌==◌, nat_le}
 use Rattle.refusal.specs.declared.Refusal.{Refusal}
 use Rattle.refusal.specs.Numbers.{said, refused_with, or_else}
 use Rattle.galois.specs.Field.{product}
@@ -8,6 +8,7 @@ use Rattle.layout.specs.declared.shape.Shape.{Shape}
 use Rattle.layout.specs.declared.losses.LossList.{LossList}
 use Rattle.layout.specs.Rules.{InOrder}
 use Rattle.layout.specs.Made.{dimensions_of, shape_refusal, Listed}
+use Rattle.layout.specs.Sizes.{packet_of}
 use Rattle.layout.specs.Blocks.{ZeroRun}
 use Rattle.code.specs.Calls.{CodewordRun, Encoded, Says, Restored}
 use Rattle.guyekpan.specs.Bytes.{words_of, positions_of}
@@ -16,17 +17,27 @@ use Rattle.guyekpan.specs.Bytes.{words_of, positions_of}
 abbrev pub octet : ℕ → ℕ → ℕ
 octet = product 8 0x11D
 
--- the dimensions that a host names: one block
+-- the dimensions that a host names by its four numbers: one block
 abbrev pub named : ℕ → ℕ → ℕ → ℕ → Dimensions
 named m n k w = record { rows = m; positions = n; sources = k; blocks = 1; words = w }
 
--- the four checks of a shape; the last also asks whether a block has at most 8,192 words
-abbrev pub host_shape_refusal : ℕ → ℕ → ℕ → ℕ → Option (ℕ × List ℕ)
-host_shape_refusal m n k w = or_else (shape_refusal 8 (named m n k w)) (cond (nat_le (n * (m * w)) 8192) None (Some (4, [])))
+-- the words of so many packets
+abbrev pub words_in : Dimensions → ℕ → ℕ
+words_in d packets = packets * (d.rows * d.words)
 
--- refusal 5 with the place of a string that has not four bytes for each of so many words
-abbrev pub string_refusal : ℕ → List ℕ → ℕ → Option (ℕ × List ℕ)
-string_refusal words bytes place = cond (length bytes == 4 * words) None (Some (5, place ∷ []))
+-- the four checks of a shape; the last also asks whether a block has at most 8,192 words
+abbrev pub host_shape_refusal : Dimensions → Option (ℕ × List ℕ)
+host_shape_refusal d = or_else (shape_refusal 8 d) (cond (nat_le (words_in d d.positions) 8192) None (Some (4, [])))
+
+-- refusal 5 with the place of a string, unless it has four bytes for each word of so many packets
+abbrev pub string_refusal : Dimensions → ℕ → List ℕ → ℕ → Option (ℕ × List ℕ)
+string_refusal d packets bytes place = cond (length bytes == 4 * words_in d packets) None (Some (5, place ∷ []))
+
+-- a string of so many packets, which have so many words
+pub record PacketString (s : Shape) (packets : ℕ) (bytes : List ℕ) (words : ℕ) : Type 0 where
+  pub count : words ≡ packets * packet_of s
+  pub room : words ≤ 8192
+  pub size : length bytes ≡ 4 * words
 
 -- the one number that a host gets: 256 times the place, or 256 times the sum and 65,536 times the word, on top
 abbrev pub host_number : Option (ℕ × List ℕ) → ℕ
@@ -44,47 +55,53 @@ Small (Some (number, sum ∷ word ∷ rest)) = (sum < 256) × (word < 256)
 
 -- ENCODE
 
-abbrev pub host_encode_refusal : ℕ → ℕ → ℕ → ℕ → List ℕ → List ℕ → Option (ℕ × List ℕ)
-host_encode_refusal m n k w source parity =
-    or_else (host_shape_refusal m n k w) (or_else (string_refusal (k * (m * w)) source 0) (string_refusal ((n - k) * (m * w)) parity 1))
+abbrev pub host_encode_refusal : Dimensions → List ℕ → List ℕ → Option (ℕ × List ℕ)
+host_encode_refusal d source parity =
+    or_else (host_shape_refusal d) (or_else (string_refusal d d.sources source 0) (string_refusal d (d.positions - d.sources) parity 1))
 
-pub record HostEncoded (m n k w : ℕ) (source parity : List ℕ) : Type 0 where
+pub record HostEncoded (d : Dimensions) (source parity : List ℕ) : Type 0 where
   pub shape : Shape
-  pub of : dimensions_of shape ≡ named m n k w
+  pub of : dimensions_of shape ≡ d
   pub encoded : Encoded shape octet (words_of source) (words_of parity)
 
+abbrev pub encode_number : Dimensions → List ℕ → List ℕ → ℕ
+encode_number d source parity = host_number (host_encode_refusal d source parity)
+
 -- the parity string afterwards, for the refusal
-abbrev pub AfterHostEncode : ℕ → ℕ → ℕ → ℕ → List ℕ → List ℕ → List ℕ → Option (ℕ × List ℕ) → Type 0
-AfterHostEncode m n k w source before after None = HostEncoded m n k w source after
-AfterHostEncode m n k w source before after (Some e) = after ≡ before
+abbrev pub HostEncodedUnless : Option (ℕ × List ℕ) → Dimensions → List ℕ → List ℕ → List ℕ → Type 0
+HostEncodedUnless None d source before after = HostEncoded d source after
+HostEncodedUnless (Some e) d source before after = after ≡ before
+
+abbrev pub AfterHostEncode : Dimensions → List ℕ → List ℕ → List ℕ → Type 0
+AfterHostEncode d source before after = HostEncodedUnless (host_encode_refusal d source before) d source before after
 
 -- CHECK
 
-abbrev pub host_check_refusal : ℕ → ℕ → ℕ → ℕ → List ℕ → List ℕ → Option (ℕ × List ℕ)
-host_check_refusal m n k w block work =
-    or_else (host_shape_refusal m n k w) (or_else (string_refusal (n * (m * w)) block 0) (string_refusal ((n - k + 1) * (m * w)) work 1))
+abbrev pub host_check_refusal : Dimensions → List ℕ → List ℕ → Option (ℕ × List ℕ)
+host_check_refusal d block work =
+    or_else (host_shape_refusal d) (or_else (string_refusal d d.positions block 0) (string_refusal d (d.positions - d.sources + 1) work 1))
 
 -- whether the block is a codeword; and the work string is zero
-pub record HostChecked (m n k w : ℕ) (block work : List ℕ) (answer : Bool) : Type 0 where
+pub record HostChecked (d : Dimensions) (block work : List ℕ) (answer : Bool) : Type 0 where
   pub shape : Shape
-  pub of : dimensions_of shape ≡ named m n k w
+  pub of : dimensions_of shape ≡ d
   pub says : Says answer (CodewordRun shape octet (words_of block))
   pub cleared : ZeroRun work
 
-abbrev pub AfterHostCheck : ℕ → ℕ → ℕ → ℕ → List ℕ → List ℕ → List ℕ → Result Bool Refusal → Type 0
-AfterHostCheck m n k w block before after (Ok answer) = HostChecked m n k w block after answer
-AfterHostCheck m n k w block before after (Err e) = after ≡ before
+abbrev pub AfterHostCheck : Dimensions → List ℕ → List ℕ → List ℕ → Result Bool Refusal → Type 0
+AfterHostCheck d block before after (Ok answer) = HostChecked d block after answer
+AfterHostCheck d block before after (Err e) = after ≡ before
 
 -- 0 for yes, 255 for no, or the number of the refusal
 abbrev pub check_number : Result Bool Refusal → ℕ
 check_number (Ok answer) = cond answer 0 255
 check_number (Err e) = host_number (Some (said e))
 
-pub record HostCheckAnswer (m n k w : ℕ) (block before after : List ℕ) (number : ℕ) : Type 0 where
+pub record CheckAnswer (d : Dimensions) (block before after : List ℕ) (number : ℕ) : Type 0 where
   pub answer : Result Bool Refusal
   pub told : number ≡ check_number answer
-  pub refusal : refused_with answer ≡ host_check_refusal m n k w block before
-  pub done : AfterHostCheck m n k w block before after answer
+  pub refusal : refused_with answer ≡ host_check_refusal d block before
+  pub done : AfterHostCheck d block before after answer
 
 -- REPAIR
 
@@ -93,35 +110,36 @@ abbrev pub Positions : ℕ → List ℕ → Type 0
 Positions n losses = (length losses ≡ 2 * length (positions_of losses)) × InOrder (positions_of losses) n
 
 -- refusal 6 where they are not so, then 7 where they are too many
-abbrev pub ListRefused : ℕ → ℕ → List ℕ → ℕ × List ℕ → Type 0
-ListRefused n k losses e = ((Positions n losses → ⊥) × (e ≡ (6, []))) ⊎ (Positions n losses × (n - k < length (positions_of losses)) × (e ≡ (7, [])))
+abbrev pub ListRefused : Dimensions → List ℕ → ℕ × List ℕ → Type 0
+ListRefused d losses e =
+    ((Positions d.positions losses → ⊥) × (e ≡ (6, []))) ⊎ (Positions d.positions losses × (d.positions - d.sources < length (positions_of losses)) × (e ≡ (7, [])))
 
 abbrev pub ListRead : Shape → List ℕ → Result LossList Refusal → Type 0
 ListRead s losses (Ok l) = Positions s.positions losses × Listed s (positions_of losses) l
-ListRead s losses (Err e) = ListRefused s.positions s.sources losses (said e)
+ListRead s losses (Err e) = ListRefused (dimensions_of s) losses (said e)
 
 -- refused before any work, by the shape or a length, or else by the loss list; the work string is as it was
-pub record HostUnrepaired (m n k w : ℕ) (block losses work work' : List ℕ) (e : ℕ × List ℕ) : Type 0 where
-  pub why : (host_check_refusal m n k w block work ≡ Some e) ⊎ ((host_check_refusal m n k w block work ≡ None) × ListRefused n k losses e)
+pub record HostUnrepaired (d : Dimensions) (losses block work work' : List ℕ) (e : ℕ × List ℕ) : Type 0 where
+  pub why : (host_check_refusal d block work ≡ Some e) ⊎ ((host_check_refusal d block work ≡ None) × ListRefused d losses e)
   pub same_work : work' ≡ work
 
 -- the checks pass, the work string is zero afterwards, and the block is restored or contradictory
-pub record HostAttempted (m n k w : ℕ) (block block' losses work work' : List ℕ) (outcome : Result (Unit {0}) Refusal) : Type 0 where
+pub record HostAttempted (d : Dimensions) (losses block block' work work' : List ℕ) (outcome : Result (Unit {0}) Refusal) : Type 0 where
   pub shape : Shape
-  pub of : dimensions_of shape ≡ named m n k w
-  pub passed : host_check_refusal m n k w block work ≡ None
-  pub positions : Positions n losses
+  pub of : dimensions_of shape ≡ d
+  pub passed : host_check_refusal d block work ≡ None
+  pub positions : Positions d.positions losses
   pub list : LossList
   pub listed : Listed shape (positions_of losses) list
   pub restored : Restored shape octet list (words_of block) (words_of block') outcome
   pub cleared : ZeroRun work'
 
-abbrev pub HostRepaired : ℕ → ℕ → ℕ → ℕ → List ℕ → List ℕ → List ℕ → List ℕ → List ℕ → Result (Unit {0}) Refusal → Type 0
-HostRepaired m n k w block block' losses work work' (Ok u) = HostAttempted m n k w block block' losses work work' (Ok u)
-HostRepaired m n k w block block' losses work work' (Err e) =
-    (block' ≡ block) × (HostUnrepaired m n k w block losses work work' (said e) ⊎ HostAttempted m n k w block block' losses work work' (Err e))
+abbrev pub HostRepaired : Dimensions → List ℕ → List ℕ → List ℕ → List ℕ → List ℕ → Result (Unit {0}) Refusal → Type 0
+HostRepaired d losses block block' work work' (Ok u) = HostAttempted d losses block block' work work' (Ok u)
+HostRepaired d losses block block' work work' (Err e) =
+    (block' ≡ block) × (HostUnrepaired d losses block work work' (said e) ⊎ HostAttempted d losses block block' work work' (Err e))
 
-pub record HostRepairAnswer (m n k w : ℕ) (block block' losses work work' : List ℕ) (number : ℕ) : Type 0 where
+pub record RepairAnswer (d : Dimensions) (losses block block' work work' : List ℕ) (number : ℕ) : Type 0 where
   pub outcome : Result (Unit {0}) Refusal
   pub told : number ≡ host_number (refused_with outcome)
-  pub done : HostRepaired m n k w block block' losses work work' outcome
+  pub done : HostRepaired d losses block block' work work' outcome

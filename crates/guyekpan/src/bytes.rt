@@ -1,7 +1,7 @@
 // Words and positions in byte strings, highest byte first.
-ghost use Rattle.std.specs.Prelude.{◌≡◌, ℕ, ◌*◌, ◌<◌, ◌≤◌, length, slice_index, take};
+ghost use Rattle.std.specs.Prelude.{◌≡◌, ◌*◌, ◌<◌, length, slice_index};
 ghost use Rattle.layout.specs.Blocks.{ZeroRun};
-ghost use Rattle.guyekpan.specs.Bytes.{words_of, positions_of};
+ghost use Rattle.guyekpan.specs.Bytes.{words_of, positions_of, Padded};
 
 use std::array;
 
@@ -26,7 +26,7 @@ fn word(bytes: &[u8], i: usize) -> u32
 
 // The words of a string, and zeros behind them.
 pub(crate) fn words(bytes: &[u8]) -> [u32; ROOM]
-    ensures { (i : ℕ) → i < 8192 → slice_index result i ≡ slice_index (words_of bytes.now) i }
+    ensures { Padded 8192 (words_of bytes.now) result }
 {
     array::from_fn(|i| word(bytes, i))
 }
@@ -62,7 +62,7 @@ fn position(bytes: &[u8], i: usize) -> usize
 
 // The positions of a string, and zeros behind them.
 pub(crate) fn positions(bytes: &[u8]) -> [usize; 255]
-    ensures { (i : ℕ) → i < 255 → slice_index result i ≡ slice_index (positions_of bytes.now) i }
+    ensures { Padded 255 (positions_of bytes.now) result }
 {
     array::from_fn(|i| position(bytes, i))
 }

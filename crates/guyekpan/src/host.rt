@@ -1,12 +1,13 @@
 // The block calls, on the words that byte strings spell.
 ghost use Rattle.std.specs.Prelude.{◌≡◌};
 ghost use Rattle.refusal.specs.Numbers.{refused_with};
-ghost use Rattle.guyekpan.specs.Host.{Small, host_number, host_encode_refusal, AfterHostEncode, host_check_refusal, AfterHostCheck, HostRepaired};
+ghost use Rattle.guyekpan.specs.Host.{Small, host_number, host_encode_refusal, HostEncodedUnless, host_check_refusal, AfterHostCheck, HostRepaired};
 
 use crate::bytes::{clear, words, write};
 use crate::one_block::OneBlock;
 use code::block;
 use field::octet::TabledOctet;
+use layout::shape::Dimensions;
 use refusal::Refusal;
 
 // The number for an outcome.
@@ -28,19 +29,12 @@ pub(crate) fn number(outcome: Result<(), Refusal>) -> u32
 }
 
 // Fills the parity string from the source string.
-pub(crate) fn encode(
-    m: u32,
-    n: u32,
-    k: u32,
-    w: u32,
-    source: &[u8],
-    parity: &mut [u8],
-) -> Result<(), Refusal>
-    ensures answer { refused_with result ≡ host_encode_refusal m n k w source.now parity.old }
-    ensures after { AfterHostEncode m n k w source.now parity.old parity.new (refused_with result) }
+pub(crate) fn encode(named: Dimensions, source: &[u8], parity: &mut [u8]) -> Result<(), Refusal>
+    ensures answer { refused_with result ≡ host_encode_refusal named source.now parity.old }
+    ensures after { HostEncodedUnless (refused_with result) named source.now parity.old parity.new }
     ensures small { Small (refused_with result) }
 {
-    let one = OneBlock::new(m, n, k, w)?;
+    let one = OneBlock::new(named)?;
     let shape = &one.shape;
     let s = one.words_in(shape.sources(), source, 0)?;
     let p = one.words_in(shape.parity(), parity, 1)?;
@@ -53,19 +47,12 @@ pub(crate) fn encode(
 }
 
 // Whether the block is a codeword.
-pub(crate) fn check(
-    m: u32,
-    n: u32,
-    k: u32,
-    w: u32,
-    block: &[u8],
-    work: &mut [u8],
-) -> Result<bool, Refusal>
-    ensures answer { refused_with result ≡ host_check_refusal m n k w block.now work.old }
-    ensures after { AfterHostCheck m n k w block.now work.old work.new result }
+pub(crate) fn check(named: Dimensions, block: &[u8], work: &mut [u8]) -> Result<bool, Refusal>
+    ensures answer { refused_with result ≡ host_check_refusal named block.now work.old }
+    ensures after { AfterHostCheck named block.now work.old work.new result }
     ensures small { Small (refused_with result) }
 {
-    let one = OneBlock::new(m, n, k, w)?;
+    let one = OneBlock::new(named)?;
     let shape = &one.shape;
     let b = one.words_in(shape.positions(), block, 0)?;
     let r = one.words_in(shape.parity() + 1, work, 1)?;
@@ -78,18 +65,15 @@ pub(crate) fn check(
 
 // Restores the packets of the block at the lost positions.
 pub(crate) fn repair(
-    m: u32,
-    n: u32,
-    k: u32,
-    w: u32,
+    named: Dimensions,
     block: &mut [u8],
     losses: &[u8],
     work: &mut [u8],
 ) -> Result<(), Refusal>
-    ensures after { HostRepaired m n k w block.old block.new losses.now work.old work.new result }
+    ensures after { HostRepaired named losses.now block.old block.new work.old work.new result }
     ensures small { Small (refused_with result) }
 {
-    let one = OneBlock::new(m, n, k, w)?;
+    let one = OneBlock::new(named)?;
     let shape = &one.shape;
     let b = one.words_in(shape.positions(), block, 0)?;
     let r = one.words_in(shape.parity() + 1, work, 1)?;

@@ -3,13 +3,14 @@
 #![tactic(auto)]
 
 ghost use Rattle.std.specs.Prelude.{◌≡◌};
-ghost use Rattle.guyekpan.specs.Host.{host_number, host_encode_refusal, AfterHostEncode, HostCheckAnswer, HostRepairAnswer};
+ghost use Rattle.guyekpan.specs.Host.{named, encode_number, AfterHostEncode, CheckAnswer, RepairAnswer};
 
 mod bytes;
 mod host;
 mod one_block;
 
 use host::{check, encode, number, repair};
+use one_block::make::one_block;
 
 // The number for a check that says no.
 const NO: u32 = 255;
@@ -24,10 +25,10 @@ pub extern "C" fn guyekpan_encode(
     source: &[u8],
     parity: &mut [u8],
 ) -> u32
-    ensures number { result ≡ host_number (host_encode_refusal m n k w source.now parity.old) }
-    ensures after { AfterHostEncode m n k w source.now parity.old parity.new (host_encode_refusal m n k w source.now parity.old) }
+    ensures number { result ≡ encode_number (named m n k w) source.now parity.old }
+    ensures after { AfterHostEncode (named m n k w) source.now parity.old parity.new }
 {
-    number(encode(m, n, k, w, source, parity))
+    number(encode(one_block(m, n, k, w), source, parity))
 }
 
 // Whether the block is a codeword.
@@ -40,9 +41,9 @@ pub extern "C" fn guyekpan_check(
     block: &[u8],
     work: &mut [u8],
 ) -> u32
-    ensures { HostCheckAnswer m n k w block.now work.old work.new result }
+    ensures { CheckAnswer (named m n k w) block.now work.old work.new result }
 {
-    match check(m, n, k, w, block, work) {
+    match check(one_block(m, n, k, w), block, work) {
         Ok(yes) => { if yes { 0 } else { NO } }
         Err(refusal) => number(Err(refusal)),
     }
@@ -59,7 +60,7 @@ pub extern "C" fn guyekpan_repair(
     losses: &[u8],
     work: &mut [u8],
 ) -> u32
-    ensures { HostRepairAnswer m n k w block.old block.new losses.now work.old work.new result }
+    ensures { RepairAnswer (named m n k w) losses.now block.old block.new work.old work.new result }
 {
-    number(repair(m, n, k, w, block, losses, work))
+    number(repair(one_block(m, n, k, w), block, losses, work))
 }

@@ -1,10 +1,10 @@
-// A shape of one block that fits the room.
+// A shape whose block fits the room.
 ghost use Rattle.std.specs.Prelude.{◌≡◌, ◌*◌, ◌≤◌};
 ghost use Rattle.layout.specs.Sizes.{packet_of};
 
 use layout::shape::Shape;
 
-mod make;
+pub(crate) mod make;
 
 #[derive(Clone, Copy)]
 pub(crate) struct OneBlock {

@@ -1,6 +1,7 @@
 -- Known values, by the definitions that the contracts of the calls name.
 use Rattle.std.specs.Prelude.{◌≡◌, ℕ, List, [], ◌∷◌, length, take, drop, set, Some, None, Result}
 use Rattle.refusal.specs.declared.Refusal.{Refusal}
+use Rattle.field.specs.declared.Arithmetic
 use Rattle.galois.specs.Field.{product, inverse, power}
 use Rattle.layout.specs.declared.shape.Dimensions.{Dimensions}
 use Rattle.layout.specs.declared.shape.Shape.{Shape}
@@ -14,8 +15,8 @@ use Rattle.frame.specs.Frames.{shape, packet, frame_words, parse}
 use Rattle.store.specs.Grids.{format_refusal}
 
 -- an arithmetic is that of the field of 2^m elements with the polynomial p
-abbrev pub OfPolynomial : ℕ → ℕ → ℕ → (ℕ → ℕ → ℕ) → (ℕ → ℕ) → Type 0
-OfPolynomial m p bits prod inv = (bits ≡ m) × (prod ≡ product m p) × (inv ≡ inverse m p)
+abbrev pub OfPolynomial : {F : Type 0} → ℕ → ℕ → Arithmetic.Ghosts F → Type 0
+OfPolynomial m p f = (f.bits ≡ m) × (f.prod ≡ product m p) × (f.inv ≡ inverse m p)
 
 abbrev pub nibble : ℕ → ℕ → ℕ
 nibble = product 4 0x13

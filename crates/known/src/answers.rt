@@ -1,7 +1,7 @@
 // What the calls answer for the known block, where a contract relates the answer to the codewords that agree.
 ghost use Rattle.std.specs.Prelude.{◌≡◌, ℕ, List, [], ◌∷◌, length, Ok, Some, None, IfOk};
 ghost use Rattle.refusal.specs.Numbers.{refused_with};
-ghost use Rattle.known.specs.Known.{IsSmall, Lists, MadeOf, RepairsChanged};
+ghost use Rattle.known.specs.Known.{known, IsSmall, Lists, MadeOf, RepairsChanged};
 
 use crate::known_block;
 use code::block::{encode, repair};
@@ -36,7 +36,7 @@ pub fn encoded() -> Result<[u32; 8], Refusal>
 
 // The block from its position 1 alone.
 pub fn repaired() -> Result<[u32; 12], Refusal>
-    ensures { result ≡ Ok (8 ∷ 9 ∷ 2 ∷ 4 ∷ 9 ∷ 0xB ∷ 6 ∷ 0xC ∷ 1 ∷ 2 ∷ 4 ∷ 8 ∷ []) }
+    ensures { result ≡ Ok known }
 {
     let shape = known_shape()?;
     let lost = LossList::new(&shape, &[0, 2])?;
@@ -48,7 +48,8 @@ pub fn repaired() -> Result<[u32; 12], Refusal>
 /// The list of these lost positions, for the shape of the known block. Three are too many.
 pub fn known_losses(positions: &[usize]) -> Result<LossList, Refusal>
     ensures made { MadeOf positions.now result }
-    ensures too_few { positions.now ≡ 0 ∷ 1 ∷ 2 ∷ [] → refused_with result ≡ Some (7, []) }
+    ensures too_few { positions.now ≡ 0 ∷ 1 ∷ 2 ∷ []
+        → refused_with result ≡ Some (7, []) }
 {
     LossList::new(&known_shape()?, positions)
 }

@@ -1,8 +1,8 @@
 // The values that must come out, shown from the definitions that the contracts of the calls name.
 #![tactic(auto)]
 
-ghost use Rattle.std.specs.Prelude.{◌≡◌, [], ◌∷◌};
-ghost use Rattle.known.specs.Known.{OfPolynomial, KnownValues};
+ghost use Rattle.std.specs.Prelude.{◌≡◌};
+ghost use Rattle.known.specs.Known.{known, OfPolynomial, KnownValues};
 
 use field::Arithmetic;
 use field::nibble::Nibble;
@@ -15,10 +15,10 @@ mod tests;
 
 // The known block: positions 0 and 1 are parity, position 2 is source.
 pub fn known_block() -> [u32; 12]
-    ensures block { result ≡ 8 ∷ 9 ∷ 2 ∷ 4 ∷ 9 ∷ 0xB ∷ 6 ∷ 0xC ∷ 1 ∷ 2 ∷ 4 ∷ 8 ∷ [] }
-    ensures nibble { OfPolynomial 4 0x13 ⟦<Nibble as Arithmetic>⟧.bits ⟦<Nibble as Arithmetic>⟧.prod ⟦<Nibble as Arithmetic>⟧.inv }
-    ensures tabled_octet { OfPolynomial 8 0x11D ⟦<TabledOctet as Arithmetic>⟧.bits ⟦<TabledOctet as Arithmetic>⟧.prod ⟦<TabledOctet as Arithmetic>⟧.inv }
-    ensures stepped_octet { OfPolynomial 8 0x11D ⟦<SteppedOctet as Arithmetic>⟧.bits ⟦<SteppedOctet as Arithmetic>⟧.prod ⟦<SteppedOctet as Arithmetic>⟧.inv }
+    ensures block { result ≡ known }
+    ensures nibble { OfPolynomial 4 0x13 ⟦<Nibble as Arithmetic>⟧ }
+    ensures tabled_octet { OfPolynomial 8 0x11D ⟦<TabledOctet as Arithmetic>⟧ }
+    ensures stepped_octet { OfPolynomial 8 0x11D ⟦<SteppedOctet as Arithmetic>⟧ }
     ensures values { KnownValues result }
 {
     [8, 9, 2, 4, 9, 0xB, 6, 0xC, 1, 2, 4, 8]

@@ -1,8 +1,7 @@
-ghost use Rattle.std.specs.Prelude.{◌≡◌, ◌*◌, ◌≤◌, length, IfOk};
+ghost use Rattle.std.specs.Prelude.{◌≡◌, ◌≤◌, IfOk};
 ghost use Rattle.refusal.specs.Numbers.{refused_with};
 ghost use Rattle.layout.specs.Made.{dimensions_of};
-ghost use Rattle.layout.specs.Sizes.{packet_of};
-ghost use Rattle.guyekpan.specs.Host.{named, host_shape_refusal, string_refusal, ListRead};
+ghost use Rattle.guyekpan.specs.Host.{named, host_shape_refusal, string_refusal, PacketString, ListRead};
 
 use super::OneBlock;
 use crate::bytes::{ROOM, positions};
@@ -11,19 +10,26 @@ use layout::losses::LossList;
 use layout::shape::{Dimensions, Shape};
 use refusal::Refusal;
 
+// The dimensions of one block.
+pub(crate) fn one_block(m: u32, n: u32, k: u32, w: u32) -> Dimensions
+    ensures { result ≡ named m n k w }
+{
+    Dimensions {
+        rows: m as usize,
+        positions: n as usize,
+        sources: k as usize,
+        blocks: 1,
+        words: w as usize,
+    }
+}
+
 impl OneBlock {
-    // The shape that a host names.
-    pub(crate) fn new(m: u32, n: u32, k: u32, w: u32) -> Result<OneBlock, Refusal>
-        ensures answer { refused_with result ≡ host_shape_refusal m n k w }
-        ensures of { IfOk result (λ b. dimensions_of b.shape ≡ named m n k w) }
+    // The shape of these dimensions, for blocks of no more words than the room has.
+    pub(crate) fn new(dimensions: Dimensions) -> Result<OneBlock, Refusal>
+        ensures answer { refused_with result ≡ host_shape_refusal dimensions }
+        ensures of { IfOk result (λ b. dimensions_of b.shape ≡ dimensions) }
     {
-        let shape = Shape::new::<TabledOctet>(Dimensions {
-            rows: m as usize,
-            positions: n as usize,
-            sources: k as usize,
-            blocks: 1,
-            words: w as usize,
-        })?;
+        let shape = Shape::new::<TabledOctet>(dimensions)?;
         if shape.positions() * shape.packet() > ROOM {
             return Err(Refusal::BadSize);
         }
@@ -38,8 +44,9 @@ impl OneBlock {
         place: usize,
     ) -> Result<usize, Refusal>
         requires { packets ≤ self.now.shape.positions }
-        ensures answer { refused_with result ≡ string_refusal (packets * packet_of self.now.shape) bytes.now place }
-        ensures words { IfOk result (λ words. (words ≡ packets * packet_of self.now.shape) × (words ≤ 8192) × (length bytes.now ≡ 4 * words)) }
+        ensures answer { refused_with result
+            ≡ string_refusal (dimensions_of self.now.shape) packets bytes.now place }
+        ensures words { IfOk result (λ n. PacketString self.now.shape packets bytes.now n) }
     {
         let words = packets * self.shape.packet();
         if bytes.len() != 4 * words {

@@ -11,6 +11,6 @@ returns-clause-after c =
     record {
       shape = c.in_ok-one.one.shape;
       of = c.in_ok-one.ensures.of;
-      says = rw (taken w32 c.args.block.now c.words-run.result c.in_ok-b.b _ 8192 long h.1 (let e = h.2 in omega arith) c.words-run.ensures) at c.in_ok-yes.ensures.after.0;
+      says = rw (taken w32 c.args.block.now c.words-run.result c.in_ok-b.b _ 8192 long h.room (let e = h.size in omega arith) c.words-run.ensures) at c.in_ok-yes.ensures.after.0;
       cleared = c.clear.ensures;
     }

@@ -12,5 +12,5 @@ returns-clause-after c =
     record {
       shape = s;
       of = c.in_ok-one.ensures.of;
-      encoded = rw (taken w32 c.args.source.now c.words-from.result c.in_ok-s.s _ 8192 long h.1 (let e = h.2 in omega arith) c.words-from.ensures, ← c.write.ensures) at c.in_ok-encode.ensures.after;
+      encoded = rw (taken w32 c.args.source.now c.words-from.result c.in_ok-s.s _ 8192 long h.room (let e = h.size in omega arith) c.words-from.ensures, ← c.write.ensures) at c.in_ok-encode.ensures.after;
     }
