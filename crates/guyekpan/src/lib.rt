@@ -10,7 +10,7 @@ mod host;
 mod one_block;
 
 use host::{check, encode, number, repair};
-use one_block::make::one_block;
+use one_block::one_block;
 
 // The number for a check that says no.
 const NO: u32 = 255;

@@ -1,14 +1,79 @@
-// A shape whose block fits the room.
-ghost use Rattle.std.specs.Prelude.{◌≡◌, ◌*◌, ◌≤◌};
+// The shape that a host names: of one block, which fits the room.
+ghost use Rattle.std.specs.Prelude.{◌≡◌, ◌*◌, ◌≤◌, IfOk};
+ghost use Rattle.refusal.specs.Numbers.{refused_with};
+ghost use Rattle.layout.specs.Made.{dimensions_of};
 ghost use Rattle.layout.specs.Sizes.{packet_of};
+ghost use Rattle.guyekpan.specs.Host.{named, host_shape_refusal, string_refusal, PacketString, ListRead};
 
-use layout::shape::Shape;
+use crate::bytes::{ROOM, positions};
+use field::octet::TabledOctet;
+use layout::losses::LossList;
+use layout::shape::{Dimensions, Shape};
+use refusal::Refusal;
 
-pub(crate) mod make;
+// The dimensions of one block.
+pub(crate) fn one_block(m: u32, n: u32, k: u32, w: u32) -> Dimensions
+    ensures { result ≡ named m n k w }
+{
+    Dimensions {
+        rows: m as usize,
+        positions: n as usize,
+        sources: k as usize,
+        blocks: 1,
+        words: w as usize,
+    }
+}
 
+// A shape whose block fits the room.
 #[derive(Clone, Copy)]
 pub(crate) struct OneBlock {
     pub(crate) shape: Shape,
     ghost octet: { shape.rows ≡ 8 },
     ghost fits: { shape.positions * packet_of shape ≤ 8192 },
+}
+
+impl OneBlock {
+    // The shape of these dimensions, for blocks of no more words than the room has.
+    pub(crate) fn new(dimensions: Dimensions) -> Result<OneBlock, Refusal>
+        ensures answer { refused_with result ≡ host_shape_refusal dimensions }
+        ensures of { IfOk result (λ b. dimensions_of b.shape ≡ dimensions) }
+    {
+        let shape = Shape::new::<TabledOctet>(dimensions)?;
+        if shape.positions() * shape.packet() > ROOM {
+            return Err(Refusal::BadSize);
+        }
+        Ok(OneBlock { shape })
+    }
+
+    // How many words a string has; refused unless it has four bytes for each word of so many packets.
+    pub(crate) fn words_in(
+        &self,
+        packets: usize,
+        bytes: &[u8],
+        place: usize,
+    ) -> Result<usize, Refusal>
+        requires { packets ≤ self.now.shape.positions }
+        ensures answer { refused_with result
+            ≡ string_refusal (dimensions_of self.now.shape) packets bytes.now place }
+        ensures words { IfOk result (λ n. PacketString self.now.shape packets bytes.now n) }
+    {
+        let words = packets * self.shape.packet();
+        if bytes.len() != 4 * words {
+            return Err(Refusal::WrongRun { place });
+        }
+        Ok(words)
+    }
+
+    // The lost positions that a string lists, two bytes each.
+    pub(crate) fn losses(&self, bytes: &[u8]) -> Result<LossList, Refusal>
+        ensures { ListRead self.now.shape bytes.now result }
+    {
+        let count = bytes.len() / 2;
+        // A block has at most 255 positions, so that a longer list cannot ascend within it.
+        if bytes.len() % 2 != 0 || count > 255 {
+            return Err(Refusal::BadLosses);
+        }
+        let at = positions(bytes);
+        LossList::new(&self.shape, &at[..count])
+    }
 }
