@@ -1,6 +1,7 @@
 -- What a host in C is answered, and what its strings hold afterwards.
 use Rattle.std.specs.Prelude.{◌≡◌, ℕ, ◌+◌, ◌-◌, ◌*◌, ◌<◌, ◌≤◌, Bool, cond, ◌⊎◌, List, [], ◌∷◌, length, Some, None, Ok, Err, Option, Result, ◌==◌, nat_le}
 use Rattle.refusal.specs.declared.Refusal.{Refusal}
+use Rattle.refusal.specs.declared.Refusal.TheVariants.{BadSize, WrongRun, BadLosses, TooFew}
 use Rattle.refusal.specs.Numbers.{said, refused_with, or_else}
 use Rattle.galois.specs.Field.{product}
 use Rattle.layout.specs.declared.shape.Dimensions.{Dimensions}
@@ -27,11 +28,11 @@ words_in d packets = packets * (d.rows * d.words)
 
 -- the four checks of a shape; the last also asks whether a block has at most 8,192 words
 abbrev pub host_shape_refusal : Dimensions → Option (ℕ × List ℕ)
-host_shape_refusal d = or_else (shape_refusal 8 d) (cond (nat_le (words_in d d.positions) 8192) None (Some (4, [])))
+host_shape_refusal d = or_else (shape_refusal 8 d) (cond (nat_le (words_in d d.positions) 8192) None (Some (said BadSize)))
 
--- refusal 5 with the place of a string, unless it has four bytes for each word of so many packets
+-- refused by its place, unless a string has four bytes for each word of so many packets
 abbrev pub string_refusal : Dimensions → ℕ → List ℕ → ℕ → Option (ℕ × List ℕ)
-string_refusal d packets bytes place = cond (length bytes == 4 * words_in d packets) None (Some (5, place ∷ []))
+string_refusal d packets bytes place = cond (length bytes == 4 * words_in d packets) None (Some (said (WrongRun place)))
 
 -- a string of so many packets, which have so many words
 pub record PacketString (s : Shape) (packets : ℕ) (bytes : List ℕ) (words : ℕ) : Type 0 where
@@ -109,10 +110,10 @@ pub record CheckAnswer (d : Dimensions) (block before after : List ℕ) (number 
 abbrev pub Positions : ℕ → List ℕ → Type 0
 Positions n losses = (length losses ≡ 2 * length (positions_of losses)) × InOrder (positions_of losses) n
 
--- refusal 6 where they are not so, then 7 where they are too many
+-- bad where they are not so, then too few packets left where they are too many
 abbrev pub ListRefused : Dimensions → List ℕ → ℕ × List ℕ → Type 0
 ListRefused d losses e =
-    ((Positions d.positions losses → ⊥) × (e ≡ (6, []))) ⊎ (Positions d.positions losses × (d.positions - d.sources < length (positions_of losses)) × (e ≡ (7, [])))
+    ((Positions d.positions losses → ⊥) × (e ≡ said BadLosses)) ⊎ (Positions d.positions losses × (d.positions - d.sources < length (positions_of losses)) × (e ≡ said TooFew))
 
 abbrev pub ListRead : Shape → List ℕ → Result LossList Refusal → Type 0
 ListRead s losses (Ok l) = Positions s.positions losses × Listed s (positions_of losses) l

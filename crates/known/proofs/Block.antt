@@ -6,7 +6,8 @@ use native.Mathlib.Decide.{ℕ_discrete}
 use native.Mathlib.Nat.{not-suc-le-zero}
 use Rattle.std.proofs.lemmas.List.{get_or-take, get_or-drop}
 use Rattle.refusal.specs.declared.Refusal.{Refusal}
-use Rattle.refusal.specs.Numbers.{refused_with}
+use Rattle.refusal.specs.declared.Refusal.TheVariants.{TooFew, Contradictory}
+use Rattle.refusal.specs.Numbers.{said, refused_with}
 use Rattle.galois.specs.Field.{double, times, product, power, FieldLaws, inverse}
 use Rattle.galois.proofs.Laws.{laws}
 use Rattle.field.specs.Fields.{nibble as primitive}
@@ -151,7 +152,7 @@ module _ (s : Shape) (e : IsSmall s) where
   pub parity_is : (after : List ℕ) → length after ≡ 8 → Encoded s nibble (drop 8 known) after → after ≡ take 8 known
   parity_is after long is = encodes.only after (long ∙ eight) is.codeword
 
-  pub too_few_made : LossesRefused s (0 ∷ 1 ∷ 2 ∷ []) (7, [])
+  pub too_few_made : LossesRefused s (0 ∷ 1 ∷ 2 ∷ []) (said TooFew)
   unfolding each
   too_few_made =
       let xs : List ℕ = 0 ∷ 1 ∷ 2 ∷ [] in
@@ -169,7 +170,7 @@ module _ (s : Shape) (e : IsSmall s) where
     unfolding each
     repairs is before agree = repaired s nibble (inverse 4 0x13) field l (below (0 ∷ 2 ∷ []) is tt) (rw (parity, is.0) (omega arith)) before known codeword agree
 
-    pub too_few_used : Lists l (0 ∷ 1 ∷ 2 ∷ []) → loss_refusal s l ≡ Some (7, [])
+    pub too_few_used : Lists l (0 ∷ 1 ∷ 2 ∷ []) → loss_refusal s l ≡ Some (said TooFew)
     unfolding each
     too_few_used is = losses_many s l (below (0 ∷ 1 ∷ 2 ∷ []) is tt) (rw (parity, is.0) (omega arith))
 
@@ -216,10 +217,10 @@ module _ (s : Shape) (e : IsSmall s) where
           (subst (λ d. SamePacket (code d) (at d known 1) (at d before 1)) (sym e) (λ i c p r. middle_is known i c p r ∙ ap (λ xs. get_or xs (i * 1 + c) 0) held ∙ sym (middle_is before i c p r))) in
           restores 4 s nibble l before after work work' (passes (0 ∷ 2 ∷ []) is (omega arith) tt before work long room) r known (repairs is before agree) a
 
-      pub refused_at_0 : Lists l [] → AfterRepair 4 s nibble l (changed known) after work work' r → refused_with r ≡ Some (8, 0 ∷ 0 ∷ [])
+      pub refused_at_0 : Lists l [] → AfterRepair 4 s nibble l (changed known) after work work' r → refused_with r ≡ Some (said (Contradictory 0 0))
       unfolding each
       refused_at_0 is a = refuses 4 s nibble l (changed known) after work work' (passes [] is (omega arith) tt (changed known) work refl room) r 0 0 (contradicts is) a
 
-      pub refused_at_1 : Lists l (0 ∷ []) → AfterRepair 4 s nibble l (changed known) after work work' r → refused_with r ≡ Some (8, 1 ∷ 0 ∷ [])
+      pub refused_at_1 : Lists l (0 ∷ []) → AfterRepair 4 s nibble l (changed known) after work work' r → refused_with r ≡ Some (said (Contradictory 1 0))
       unfolding each
       refused_at_1 is a = refuses 4 s nibble l (changed known) after work work' (passes (0 ∷ []) is (omega arith) tt (changed known) work refl room) r 1 0 (contradicts_behind is) a

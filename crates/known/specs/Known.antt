@@ -1,6 +1,8 @@
 -- Known values, by the definitions that the contracts of the calls name.
 use Rattle.std.specs.Prelude.{◌≡◌, ℕ, List, [], ◌∷◌, length, take, drop, set, Some, None, Result}
 use Rattle.refusal.specs.declared.Refusal.{Refusal}
+use Rattle.refusal.specs.declared.Refusal.TheVariants.{BadCounts, TooLong, TooFew, BadFormat}
+use Rattle.refusal.specs.Numbers.{said}
 use Rattle.field.specs.declared.Arithmetic
 use Rattle.galois.specs.Field.{product, inverse, power}
 use Rattle.layout.specs.declared.shape.Dimensions.{Dimensions}
@@ -75,8 +77,8 @@ pub record KnownValues (block : List ℕ) : Type 0 where
   pub repairs : (s : Shape) (l : LossList) → IsSmall s → Lists l (0 ∷ 2 ∷ []) → (before : List ℕ)
       → AgreeOff s nibble l (block_at s block) (block_at s before) → Repaired s nibble l before block
   -- three positions are too many, in a list that is made and in one that is used
-  pub too_few_made : (s : Shape) → IsSmall s → LossesRefused s (0 ∷ 1 ∷ 2 ∷ []) (7, [])
-  pub too_few_used : (s : Shape) (l : LossList) → IsSmall s → Lists l (0 ∷ 1 ∷ 2 ∷ []) → loss_refusal s l ≡ Some (7, [])
+  pub too_few_made : (s : Shape) → IsSmall s → LossesRefused s (0 ∷ 1 ∷ 2 ∷ []) (said TooFew)
+  pub too_few_used : (s : Shape) (l : LossList) → IsSmall s → Lists l (0 ∷ 1 ∷ 2 ∷ []) → loss_refusal s l ≡ Some (said TooFew)
   -- a word changed, with nothing lost: sum 0, word 0; and with position 0 lost: sum 1, word 0
   pub contradicts : (s : Shape) (l : LossList) → IsSmall s → Lists l [] → Contradicted s nibble l (block_at s (changed block)) 0 0
   pub contradicts_behind : (s : Shape) (l : LossList) → IsSmall s → Lists l (0 ∷ []) → Contradicted s nibble l (block_at s (changed block)) 1 0
@@ -87,10 +89,10 @@ pub record KnownValues (block : List ℕ) : Type 0 where
   pub packet_read : parse (0x30000002 ∷ drop 8 block) ≡ packet 0 2 (drop 8 block)
   -- 1 × 3 slots of 4 words take 15 words
   pub fits : format_refusal 15 1 3 4 ≡ None
-  pub fits_not : format_refusal 14 1 3 4 ≡ Some (20, [])
+  pub fits_not : format_refusal 14 1 3 4 ≡ Some (said BadFormat)
   -- the most positions, and the most parity
   pub small_accepted : shape_refusal 4 small ≡ None
   pub longest : shape_refusal 4 (one_block 4 15 10) ≡ None
-  pub too_long : shape_refusal 4 (one_block 4 16 10) ≡ Some (3, [])
+  pub too_long : shape_refusal 4 (one_block 4 16 10) ≡ Some (said TooLong)
   pub most_parity : shape_refusal 8 (one_block 8 255 223) ≡ None
-  pub too_much_parity : shape_refusal 8 (one_block 8 255 222) ≡ Some (2, [])
+  pub too_much_parity : shape_refusal 8 (one_block 8 255 222) ≡ Some (said BadCounts)

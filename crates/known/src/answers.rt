@@ -1,6 +1,7 @@
 // What the calls answer for the known block, where a contract relates the answer to the codewords that agree.
 ghost use Rattle.std.specs.Prelude.{◌≡◌, ℕ, List, [], ◌∷◌, length, Ok, Some, None, IfOk};
-ghost use Rattle.refusal.specs.Numbers.{refused_with};
+ghost use Rattle.refusal.specs.declared.Refusal.TheVariants.{TooFew, Contradictory};
+ghost use Rattle.refusal.specs.Numbers.{said, refused_with};
 ghost use Rattle.known.specs.Known.{known, IsSmall, Lists, MadeOf, RepairsChanged};
 
 use crate::known_block;
@@ -49,7 +50,7 @@ pub fn repaired() -> Result<[u32; 12], Refusal>
 pub fn known_losses(positions: &[usize]) -> Result<LossList, Refusal>
     ensures made { MadeOf positions.now result }
     ensures too_few { positions.now ≡ 0 ∷ 1 ∷ 2 ∷ []
-        → refused_with result ≡ Some (7, []) }
+        → refused_with result ≡ Some (said TooFew) }
 {
     LossList::new(&known_shape()?, positions)
 }
@@ -58,8 +59,10 @@ pub fn known_losses(positions: &[usize]) -> Result<LossList, Refusal>
 fn repair_changed(shape: &Shape, lost: &LossList, work: &mut [u32]) -> Result<(), Refusal>
     requires shape { IsSmall shape.now }
     requires work { length work.old ≡ 12 }
-    ensures none { Lists lost.now [] → refused_with result ≡ Some (8, 0 ∷ 0 ∷ []) }
-    ensures first { Lists lost.now (0 ∷ []) → refused_with result ≡ Some (8, 1 ∷ 0 ∷ []) }
+    ensures none { Lists lost.now []
+        → refused_with result ≡ Some (said (Contradictory 0 0)) }
+    ensures first { Lists lost.now (0 ∷ [])
+        → refused_with result ≡ Some (said (Contradictory 1 0)) }
     ensures repair { (positions : List ℕ) → Lists lost.now positions
         → RepairsChanged positions work.old work.new result }
 {
@@ -70,7 +73,7 @@ fn repair_changed(shape: &Shape, lost: &LossList, work: &mut [u32]) -> Result<()
 
 /// The refusal of the changed block with nothing lost. It is the answer of the repair, which leaves the work run zero.
 pub fn contradicted(work: &mut [u32; 12]) -> Result<(), Refusal>
-    ensures refused { refused_with result ≡ Some (8, 0 ∷ 0 ∷ []) }
+    ensures refused { refused_with result ≡ Some (said (Contradictory 0 0)) }
     ensures repair { RepairsChanged [] work.old work.new result }
 {
     repair_changed(&known_shape()?, &LossList::none(), work)
@@ -78,7 +81,7 @@ pub fn contradicted(work: &mut [u32; 12]) -> Result<(), Refusal>
 
 /// The refusal of the changed block with position 0 lost, likewise.
 pub fn contradicted_behind(work: &mut [u32; 12]) -> Result<(), Refusal>
-    ensures refused { refused_with result ≡ Some (8, 1 ∷ 0 ∷ []) }
+    ensures refused { refused_with result ≡ Some (said (Contradictory 1 0)) }
     ensures repair { RepairsChanged (0 ∷ []) work.old work.new result }
 {
     let shape = known_shape()?;
