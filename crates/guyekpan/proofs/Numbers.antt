@@ -1,14 +1,14 @@
 -- Numbers in bytes, one by one.
 use Rattle.std.proofs.Common.{◌≡◌, ℕ, zero, suc, ◌+◌, ◌*◌, ◌/◌, ◌^◌, ◌<◌, ◌≤◌, List, [], ◌∷◌, length, get_or, Fits, take, drop, sym, refl, ap, ◌∙◌, zero-mul, add-zero, suc-mul, rules, arith}
 use Rattle.std.specs.Int.{Width, w16, w32, byte_len, from_be_bytes, to_be_bytes}
-use Rattle.std.proofs.lemmas.List.{drop-drop, get_or_past, ext_get_or, places, get_or-take}
+use Rattle.std.proofs.lemmas.List.{drop-drop, ext_get_or, places}
 use borrow.Rule.Slice.PartMut.{put_mid}
 use native.Mathlib.Numerals.{unary_clauses}
 use native.Mathlib.Decide.{ℕ_discrete}
 use Rattle.std.proofs.Math.Facts.{Fits-lt-pow}
 use Rattle.std.proofs.lemmas.Nat.{from_be_bytes-to_be_bytes_4}
 use Rattle.layout.proofs.Parts.{part_written, part_kept}
-use Rattle.guyekpan.specs.Bytes.{numbers, words_of, positions_of, Padded}
+use Rattle.guyekpan.specs.Bytes.{numbers, words_of, positions_of}
 
 pub numbers_length : (w : Width) (n : ℕ) (bytes : List ℕ) → length (numbers w n bytes) ≡ n
 unfolding numbers
@@ -24,8 +24,12 @@ numbers_at w (suc n) (suc i) bytes lt =
     ∙ ap (λ xs. from_be_bytes w (take (byte_len w) xs)) (drop-drop (i * byte_len w) (byte_len w) bytes)
     ∙ ap (λ k. from_be_bytes w (take (byte_len w) (drop k bytes))) (omega (arith, suc-mul i (byte_len w)))
 
-pub numbers_past : (w : Width) (n i : ℕ) (bytes : List ℕ) → n ≤ i → get_or (numbers w n bytes) i 0 ≡ 0
-numbers_past w n i bytes le = get_or_past (numbers w n bytes) i 0 (let e = numbers_length w n bytes in omega arith)
+-- a run is the numbers of a string, where every number is
+pub numbers_are : (w : Width) (n : ℕ) (bytes run : List ℕ) → n ≡ length run
+    → ((i : ℕ) → i < length run → get_or (numbers w n bytes) i 0 ≡ get_or run i 0) → numbers w n bytes ≡ run
+numbers_are w n bytes run long each =
+    let e = numbers_length w n bytes in
+    ext_get_or 0 (numbers w n bytes) run (e ∙ long) (λ i lt. each i (omega arith))
 
 four : (n : ℕ) (xs : List ℕ) → n + 4 ≤ length xs → take 4 (drop n xs) ≡ get_or xs n 0 ∷ get_or xs (n + 1) 0 ∷ get_or xs (n + 2) 0 ∷ get_or xs (n + 3) 0 ∷ []
 four zero (a ∷ b ∷ c ∷ d ∷ xs) le = refl
@@ -49,15 +53,9 @@ module _ (bytes : List ℕ) (i : ℕ) where
       → get_or (words_of bytes) i 0 ≡ from_be_bytes w32 (get_or bytes (i * 4) 0 ∷ get_or bytes (i * 4 + 1) 0 ∷ get_or bytes (i * 4 + 2) 0 ∷ get_or bytes (i * 4 + 3) 0 ∷ [])
   word_read le = numbers_at w32 (length bytes / 4) i bytes (omega arith) ∙ ap (from_be_bytes w32) (four (i * 4) bytes le)
 
-  pub word_past : length bytes < i * 4 + 4 → get_or (words_of bytes) i 0 ≡ 0
-  word_past lt = numbers_past w32 (length bytes / 4) i bytes (omega arith)
-
   -- position i of a string
   pub position_read : i * 2 + 2 ≤ length bytes → get_or (positions_of bytes) i 0 ≡ from_be_bytes w16 (get_or bytes (i * 2) 0 ∷ get_or bytes (i * 2 + 1) 0 ∷ [])
   position_read le = numbers_at w16 (length bytes / 2) i bytes (omega arith) ∙ ap (from_be_bytes w16) (two (i * 2) bytes le)
-
-  pub position_past : length bytes < i * 2 + 2 → get_or (positions_of bytes) i 0 ≡ 0
-  position_past lt = numbers_past w16 (length bytes / 2) i bytes (omega arith)
 
 -- the same four bytes spell the same word
 pub same_word : (xs ys : List ℕ) (i j : ℕ) → i * 4 + 4 ≤ length xs → j * 4 + 4 ≤ length ys
@@ -71,12 +69,6 @@ pub word_back : (n : ℕ) → n < 2 ^ 32 → get_or (words_of (to_be_bytes w32 n
 word_back n lt = numbers_at w32 1 0 (to_be_bytes w32 n) (omega arith) ∙ from_be_bytes-to_be_bytes_4 n lt
 
 module _ (bytes run : List ℕ) (size : length bytes ≡ 4 * length run) where
-  -- every word reads back
-  pub words_are : ((j : ℕ) → j < length run → get_or (words_of bytes) j 0 ≡ get_or run j 0) → words_of bytes ≡ run
-  words_are each =
-      let n : length bytes / 4 ≡ length run = omega arith in
-      ext_get_or 0 (words_of bytes) run (numbers_length w32 (length bytes / 4) bytes ∙ n) (λ j lt. each j (let e = numbers_length w32 (length bytes / 4) bytes in omega arith))
-
   -- word n is written
   pub word_written : (n k : ℕ) (y : List ℕ) → k ≡ 4 → y ≡ to_be_bytes w32 (get_or run n 0) → n < length run → Fits w32 (get_or run n 0)
       → ((j : ℕ) → j < n → get_or (words_of bytes) j 0 ≡ get_or run j 0)
@@ -91,10 +83,3 @@ module _ (bytes run : List ℕ) (size : length bytes ≡ 4 * length run) where
             ∙ ap (λ z. get_or (words_of z) 0 0) of ∙ word_back (get_or run n 0) (Fits-lt-pow fits))
         | no other ↦ same_word (put_mid (n * 4) k bytes y) bytes j j (omega arith) (omega arith) (λ c h. part_kept n 4 k bytes y four within long j c other h) ∙ done j (omega arith)
       ]
-
--- the numbers in a string, taken from an array that begins with them
-pub taken : (w : Width) (bytes array : List ℕ) (n m room : ℕ) → length (take n array) ≡ n → n ≤ room → m ≡ n
-    → Padded room (numbers w m bytes) array → take n array ≡ numbers w m bytes
-taken w bytes array n m room long fits count each =
-    ext_get_or 0 (take n array) (numbers w m bytes) (long ∙ sym (numbers_length w m bytes ∙ count))
-    (λ i lt. get_or-take n array i 0 (omega arith) ∙ each i (omega arith))

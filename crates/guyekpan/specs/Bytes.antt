@@ -1,5 +1,5 @@
 -- What bytes spell, highest first.
-use Rattle.std.specs.Prelude.{◌≡◌, ℕ, zero, suc, ◌/◌, ◌<◌, List, [], ◌∷◌, length, slice_index, take, drop}
+use Rattle.std.specs.Prelude.{ℕ, zero, suc, ◌/◌, List, [], ◌∷◌, length, take, drop}
 use Rattle.std.specs.Int.{Width, w16, w32, byte_len, from_be_bytes}
 
 -- the first n numbers of a width
@@ -14,7 +14,3 @@ words_of bytes = numbers w32 (length bytes / 4) bytes
 -- two bytes a position
 abbrev pub positions_of : List ℕ → List ℕ
 positions_of bytes = numbers w16 (length bytes / 2) bytes
-
--- an array of n numbers has those of a list, and zeros behind them
-abbrev pub Padded : ℕ → List ℕ → List ℕ → Type 0
-Padded n xs array = (i : ℕ) → i < n → slice_index array i ≡ slice_index xs i

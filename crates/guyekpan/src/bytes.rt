@@ -1,21 +1,13 @@
 // Words and positions in byte strings, highest byte first.
-ghost use Rattle.std.specs.Prelude.{◌≡◌, ◌*◌, ◌<◌, length, slice_index};
+ghost use Rattle.std.specs.Prelude.{◌≡◌, ◌+◌, ◌*◌, ◌≤◌, length, slice_index};
 ghost use Rattle.layout.specs.Blocks.{ZeroRun};
-ghost use Rattle.guyekpan.specs.Bytes.{words_of, positions_of, Padded};
+ghost use Rattle.guyekpan.specs.Bytes.{words_of, positions_of};
 
-use std::array;
-
-// Room for the longest string that a host may pass: there is no heap.
-pub(crate) const ROOM: usize = 8192;
-
-// Word number i of a string, and 0 behind the last.
+// Word number i of a string.
 fn word(bytes: &[u8], i: usize) -> u32
-    requires { i < 8192 }
+    requires { i * 4 + 4 ≤ length bytes.now }
     ensures { result ≡ slice_index (words_of bytes.now) i }
 {
-    if bytes.len() < i * 4 + 4 {
-        return 0;
-    }
     u32::from_be_bytes([
         bytes[i * 4],
         bytes[i * 4 + 1],
@@ -24,11 +16,14 @@ fn word(bytes: &[u8], i: usize) -> u32
     ])
 }
 
-// The words of a string, and zeros behind them.
-pub(crate) fn words(bytes: &[u8]) -> [u32; ROOM]
-    ensures { Padded 8192 (words_of bytes.now) result }
+// Reads the words of a string into a run of their number.
+pub(crate) fn read(bytes: &[u8], words: &mut [u32])
+    requires { length bytes.now ≡ 4 * length words.old }
+    ensures { words_of bytes.now ≡ words.new }
 {
-    array::from_fn(|i| word(bytes, i))
+    for i in 0..words.len() {
+        words[i] = word(bytes, i);
+    }
 }
 
 // Writes words into a string of their length.
@@ -49,20 +44,20 @@ pub(crate) fn clear(bytes: &mut [u8])
     bytes.fill(0);
 }
 
-// Position number i of a string, and 0 behind the last.
+// Position number i of a string.
 fn position(bytes: &[u8], i: usize) -> usize
-    requires { i < 255 }
+    requires { i * 2 + 2 ≤ length bytes.now }
     ensures { result ≡ slice_index (positions_of bytes.now) i }
 {
-    if bytes.len() < i * 2 + 2 {
-        return 0;
-    }
     usize::from(u16::from_be_bytes([bytes[i * 2], bytes[i * 2 + 1]]))
 }
 
-// The positions of a string, and zeros behind them.
-pub(crate) fn positions(bytes: &[u8]) -> [usize; 255]
-    ensures { Padded 255 (positions_of bytes.now) result }
+// Reads the positions of a string into a list of their number.
+pub(crate) fn read_positions(bytes: &[u8], positions: &mut [usize])
+    requires { length bytes.now ≡ 2 * length positions.old }
+    ensures { positions_of bytes.now ≡ positions.new }
 {
-    array::from_fn(|i| position(bytes, i))
+    for i in 0..positions.len() {
+        positions[i] = position(bytes, i);
+    }
 }

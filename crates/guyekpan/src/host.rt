@@ -3,8 +3,8 @@ ghost use Rattle.std.specs.Prelude.{◌≡◌};
 ghost use Rattle.refusal.specs.Numbers.{refused_with};
 ghost use Rattle.guyekpan.specs.Host.{Small, host_number, host_encode_refusal, HostEncodedUnless, host_check_refusal, AfterHostCheck, HostRepaired};
 
-use crate::bytes::{clear, words, write};
-use crate::one_block::OneBlock;
+use crate::bytes::{clear, read, write};
+use crate::one_block::{OneBlock, ROOM};
 use code::block;
 use field::octet::TabledOctet;
 use layout::shape::Dimensions;
@@ -38,10 +38,11 @@ pub(crate) fn encode(named: Dimensions, source: &[u8], parity: &mut [u8]) -> Res
     let shape = &one.shape;
     let s = one.words_in(shape.sources(), source, 0)?;
     let p = one.words_in(shape.parity(), parity, 1)?;
-    let from = words(source);
-    let mut to = words(parity);
-    let to = &mut to[..p];
-    block::encode::<TabledOctet>(shape, &from[..s], to)?;
+    let mut from = [0; ROOM];
+    let mut to = [0; ROOM];
+    let (from, to) = (&mut from[..s], &mut to[..p]);
+    read(source, from);
+    block::encode::<TabledOctet>(shape, from, to)?;
     write(to, parity);
     Ok(())
 }
@@ -56,9 +57,11 @@ pub(crate) fn check(named: Dimensions, block: &[u8], work: &mut [u8]) -> Result<
     let shape = &one.shape;
     let b = one.words_in(shape.positions(), block, 0)?;
     let r = one.words_in(shape.parity() + 1, work, 1)?;
-    let run = words(block);
-    let mut room = words(work);
-    let yes = block::check::<TabledOctet>(shape, &run[..b], &mut room[..r])?;
+    let mut run = [0; ROOM];
+    let mut room = [0; ROOM];
+    let (run, room) = (&mut run[..b], &mut room[..r]);
+    read(block, run);
+    let yes = block::check::<TabledOctet>(shape, run, room)?;
     clear(work);
     Ok(yes)
 }
@@ -78,10 +81,11 @@ pub(crate) fn repair(
     let b = one.words_in(shape.positions(), block, 0)?;
     let r = one.words_in(shape.parity() + 1, work, 1)?;
     let lost = one.losses(losses)?;
-    let mut run = words(block);
-    let run = &mut run[..b];
-    let mut room = words(work);
-    let outcome = block::repair::<TabledOctet>(shape, run, &lost, &mut room[..r]);
+    let mut run = [0; ROOM];
+    let mut room = [0; ROOM];
+    let (run, room) = (&mut run[..b], &mut room[..r]);
+    read(block, run);
+    let outcome = block::repair::<TabledOctet>(shape, run, &lost, room);
     clear(work);
     if outcome.is_ok() {
         write(run, block);

@@ -5,11 +5,14 @@ ghost use Rattle.layout.specs.Made.{dimensions_of};
 ghost use Rattle.layout.specs.Sizes.{packet_of};
 ghost use Rattle.guyekpan.specs.Host.{named, host_shape_refusal, string_refusal, PacketString, ListRead};
 
-use crate::bytes::{ROOM, positions};
+use crate::bytes::read_positions;
 use field::octet::TabledOctet;
 use layout::losses::LossList;
 use layout::shape::{Dimensions, Shape};
 use refusal::Refusal;
+
+// Room for the longest string that a host may pass: there is no heap.
+pub(crate) const ROOM: usize = 8192;
 
 // The dimensions of one block.
 pub(crate) fn one_block(m: u32, n: u32, k: u32, w: u32) -> Dimensions
@@ -73,7 +76,9 @@ impl OneBlock {
         if bytes.len() % 2 != 0 || count > 255 {
             return Err(Refusal::BadLosses);
         }
-        let at = positions(bytes);
-        LossList::new(&self.shape, &at[..count])
+        let mut at = [0; 255];
+        let at = &mut at[..count];
+        read_positions(bytes, at);
+        LossList::new(&self.shape, at)
     }
 }

@@ -1,7 +1,6 @@
-use Rattle.std.proofs.Common.{◌≡◌, ◌/◌, length, take, refl, inl, inr, arith, rules}
+use Rattle.std.proofs.Common.{◌/◌, length, sym, refl, inl, inr, arith}
 use Rattle.std.specs.Int.{w16}
-use Rattle.std.proofs.lemmas.List.{places}
-use Rattle.guyekpan.proofs.Numbers.{numbers_length, taken}
+use Rattle.guyekpan.proofs.Numbers.{numbers_length}
 use Rattle.guyekpan.proofs.Lists.{few_in_order, list_read}
 use Rattle.guyekpan.specs.Bytes.{positions_of}
 use Rattle.guyekpan.proofs.one_block.OneBlock.losses.Goals as goal
@@ -22,7 +21,6 @@ returns-then-bytes-ne0 c = inl (
 pub returns : goal.returns
 returns c =
     let bytes = c.args.bytes.now in
-    let count = length bytes / 2 in
-    let long : length (take count c.positions-at.result) ≡ count = search (rules, places) in
-    let all = numbers_length w16 count bytes in
-    list_read c.args.self.now.shape bytes _ c.new.result (taken w16 bytes c.positions-at.result count count 255 long (omega arith) refl c.positions-at.ensures) (omega arith) c.new.ensures
+    let all = numbers_length w16 (length bytes / 2) bytes in
+    let even = c.if-bytes-ne0.false in
+    list_read c.args.self.now.shape bytes _ c.new.result (sym c.read_positions.ensures) (omega arith) c.new.ensures

@@ -1,0 +1,6 @@
+use Rattle.std.proofs.Common.{◌≡◌, ℕ, ◌<◌, get_or}
+use Rattle.guyekpan.specs.Bytes.{positions_of}
+use Rattle.guyekpan.proofs.bytes.read_positions.Given as goal
+
+abbrev pub invariant-loop-i : goal.invariant-loop-i
+invariant-loop-i l = (j : ℕ) → j < l.i → get_or (positions_of l.bytes) j 0 ≡ get_or l.positions j 0
