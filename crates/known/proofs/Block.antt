@@ -18,12 +18,12 @@ use Rattle.layout.specs.declared.shape.Shape.{Shape}
 use Rattle.layout.specs.declared.losses.LossList.{LossList}
 use Rattle.layout.specs.Made.{LossesRefused}
 use Rattle.layout.specs.Sizes.{parity_of, packet_of, lost, LostBelow}
-use Rattle.layout.specs.Blocks.{code_of, block_at}
+use Rattle.layout.specs.Blocks.{code_of, block_at, ZeroRun}
 use Rattle.layout.specs.Checks.{loss_refusal}
 use Rattle.layout.proofs.Passes.{losses_many, losses_ok, run_ok, width_ok, pass_both}
 use Rattle.code.specs.Lost.{AgreeOff, Contradicted}
 use Rattle.code.specs.Calls.{CodewordRun, Encoded, Repaired, repair_refusal, AfterRepair}
-use Rattle.known.specs.Known.{nibble, small, IsSmall, Lists, known, changed}
+use Rattle.known.specs.Known.{nibble, small, IsSmall, Lists, known, changed, RepairsChanged}
 use Rattle.known.proofs.Forced.{encoded, repaired, contradicted}
 use Rattle.known.proofs.Given.{restores, refuses}
 
@@ -217,10 +217,17 @@ module _ (s : Shape) (e : IsSmall s) where
           (subst (λ d. SamePacket (code d) (at d known 1) (at d before 1)) (sym e) (λ i c p r. middle_is known i c p r ∙ ap (λ xs. get_or xs (i * 1 + c) 0) held ∙ sym (middle_is before i c p r))) in
           restores 4 s nibble l before after work work' (passes (0 ∷ 2 ∷ []) is (omega arith) tt before work long room) r known (repairs is before agree) a
 
-      pub refused_at_0 : Lists l [] → AfterRepair 4 s nibble l (changed known) after work work' r → refused_with r ≡ Some (said (Contradictory 0 0))
-      unfolding each
-      refused_at_0 is a = refuses 4 s nibble l (changed known) after work work' (passes [] is (omega arith) tt (changed known) work refl room) r 0 0 (contradicts is) a
+module _ (work work' : List ℕ) (room : length work ≡ 12) (r : Result (Unit {0}) Refusal) where
+  pub refused_none : RepairsChanged [] work work' r → (refused_with r ≡ Some (said (Contradictory 0 0))) × ZeroRun work'
+  unfolding each
+  refused_none t =
+      let s = t.shape in
+      let pass = passes s t.small t.losses [] t.lists (omega arith) tt (changed known) work refl room in
+      refuses 4 s nibble t.losses (changed known) t.block work work' pass r 0 0 (contradicts s t.small t.losses t.lists) t.after
 
-      pub refused_at_1 : Lists l (0 ∷ []) → AfterRepair 4 s nibble l (changed known) after work work' r → refused_with r ≡ Some (said (Contradictory 1 0))
-      unfolding each
-      refused_at_1 is a = refuses 4 s nibble l (changed known) after work work' (passes (0 ∷ []) is (omega arith) tt (changed known) work refl room) r 1 0 (contradicts_behind is) a
+  pub refused_first : RepairsChanged (0 ∷ []) work work' r → (refused_with r ≡ Some (said (Contradictory 1 0))) × ZeroRun work'
+  unfolding each
+  refused_first t =
+      let s = t.shape in
+      let pass = passes s t.small t.losses (0 ∷ []) t.lists (omega arith) tt (changed known) work refl room in
+      refuses 4 s nibble t.losses (changed known) t.block work work' pass r 1 0 (contradicts_behind s t.small t.losses t.lists) t.after

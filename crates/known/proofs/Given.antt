@@ -7,7 +7,7 @@ use Rattle.refusal.specs.Numbers.{said, refused_with}
 use Rattle.algebra.specs.Code.{Block, syndrome}
 use Rattle.layout.specs.declared.shape.Shape.{Shape}
 use Rattle.layout.specs.declared.losses.LossList.{LossList}
-use Rattle.layout.specs.Blocks.{code_of, block_at}
+use Rattle.layout.specs.Blocks.{code_of, block_at, ZeroRun}
 use Rattle.layout.proofs.Blocks.{row_lt, column_lt, place}
 use Rattle.layout.proofs.Passes.{passed}
 use Rattle.code.specs.Lost.{Contradicted}
@@ -54,9 +54,9 @@ module _ (bits : ℕ) (s : Shape) (prod : ℕ → ℕ → ℕ) (l : LossList) (b
   restores (Err e) codeword is (inr a) = absurd (a.restored.contradicted.none (block_at s codeword) is.codeword.1 is.agrees)
 
   pub refuses : (r : Result (Unit {0}) Refusal) (sum word : ℕ) → Contradicted s prod l (block_at s block) sum word → AfterRepair bits s prod l block after work work' r
-      → refused_with r ≡ Some (said (Contradictory sum word))
+      → (refused_with r ≡ Some (said (Contradictory sum word))) × ZeroRun work'
   refuses (Ok u) sum word is a = absurd (is.none (block_at s after) a.restored.codeword.1 a.restored.agrees)
   refuses (Err e) sum word is (inl a) = passed _ (said e) passes (sym a.refusal)
   refuses (Err e) sum word is (inr a) =
       let same = one s prod l (block_at s block) _ _ _ _ a.restored.contradicted is in
-      ap Some (a.restored.refusal ∙ ap₂ (λ x y. said (Contradictory x y)) same.0 same.1)
+      (ap Some (a.restored.refusal ∙ ap₂ (λ x y. said (Contradictory x y)) same.0 same.1), a.cleared)

@@ -1,7 +1,8 @@
 // What the calls answer for the known block, where a contract relates the answer to the codewords that agree.
-ghost use Rattle.std.specs.Prelude.{◌≡◌, ℕ, List, [], ◌∷◌, length, Ok, Some, None, IfOk};
+ghost use Rattle.std.specs.Prelude.{◌≡◌, ℕ, List, [], ◌∷◌, Ok, Some, IsOk, IfOk};
 ghost use Rattle.refusal.specs.declared.Refusal.TheVariants.{TooFew, Contradictory};
 ghost use Rattle.refusal.specs.Numbers.{said, refused_with};
+ghost use Rattle.layout.specs.Blocks.{ZeroRun};
 ghost use Rattle.known.specs.Known.{known, IsSmall, Lists, MadeOf, RepairsChanged};
 
 use crate::known_block;
@@ -13,8 +14,8 @@ use refusal::Refusal;
 
 // The shape of the known block.
 pub fn known_shape() -> Result<Shape, Refusal>
-    ensures accepted { refused_with result ≡ None }
-    ensures made { IfOk result (λ s. IsSmall s) }
+    ensures accepted { IsOk result }
+    ensures made { IfOk result IsSmall }
 {
     Shape::new::<Nibble>(Dimensions {
         rows: 4,
@@ -57,13 +58,8 @@ pub fn known_losses(positions: &[usize]) -> Result<LossList, Refusal>
 
 // A repair of the block with row 0 of position 1 changed to 8.
 fn repair_changed(shape: &Shape, lost: &LossList, work: &mut [u32]) -> Result<(), Refusal>
-    requires shape { IsSmall shape.now }
-    requires work { length work.old ≡ 12 }
-    ensures none { Lists lost.now []
-        → refused_with result ≡ Some (said (Contradictory 0 0)) }
-    ensures first { Lists lost.now (0 ∷ [])
-        → refused_with result ≡ Some (said (Contradictory 1 0)) }
-    ensures repair { (positions : List ℕ) → Lists lost.now positions
+    requires { IsSmall shape.now }
+    ensures { (positions : List ℕ) → Lists lost.now positions
         → RepairsChanged positions work.old work.new result }
 {
     let mut block = known_block();
@@ -71,17 +67,19 @@ fn repair_changed(shape: &Shape, lost: &LossList, work: &mut [u32]) -> Result<()
     repair::<Nibble>(shape, &mut block, lost, work)
 }
 
-/// The refusal of the changed block with nothing lost. It is the answer of the repair, which leaves the work run zero.
+/// Repairs the block with row 0 of position 1 changed to 8, with nothing lost.
 pub fn contradicted(work: &mut [u32; 12]) -> Result<(), Refusal>
     ensures refused { refused_with result ≡ Some (said (Contradictory 0 0)) }
+    ensures cleared { ZeroRun work.new }
     ensures repair { RepairsChanged [] work.old work.new result }
 {
     repair_changed(&known_shape()?, &LossList::none(), work)
 }
 
-/// The refusal of the changed block with position 0 lost, likewise.
+/// Repairs that block with position 0 lost.
 pub fn contradicted_behind(work: &mut [u32; 12]) -> Result<(), Refusal>
     ensures refused { refused_with result ≡ Some (said (Contradictory 1 0)) }
+    ensures cleared { ZeroRun work.new }
     ensures repair { RepairsChanged (0 ∷ []) work.old work.new result }
 {
     let shape = known_shape()?;

@@ -1,5 +1,9 @@
-use Rattle.std.proofs.Common.{[], refl}
+use Rattle.std.proofs.Common.{[], refl, rules}
+use Rattle.known.proofs.Block.{refused_none}
 use Rattle.known.proofs.answers.contradicted.Goals as goal
 
-pub returns-clause-repair : goal.returns-clause-repair
-returns-clause-repair c = c.repair_changed.ensures.repair [] (c.none.ensures, rw c.none.ensures refl)
+pub returns : goal.returns
+returns c =
+    let repair = c.repair_changed.ensures [] (c.none.ensures, rw c.none.ensures refl) in
+    let answer = refused_none _ _ (search rules) _ repair in
+    record { refused = answer.0; cleared = answer.1; repair = repair }
