@@ -1,5 +1,13 @@
-// Encode, check and repair one block of the tabled octet, for a host in C. It passes m, n, k and w, and byte strings: each
-// word is four bytes, highest first. It gets one number: 0 for done or yes, 255 for a check that says no, else the refusal.
+//! Encode, check and repair one block of the tabled octet, for a host in C. include/guyekpan.h declares the calls.
+//!
+//! A host names a block by m rows in a packet, n positions, k source positions among them, and w words in a row. It passes strings of
+//! bytes: four for each word and two for each lost position, highest first. It gets one number: 0 for done or yes, 255 for a check that
+//! says no, else the refusal's, with the values of the refusal on top (`host_number`).
+//!
+//! ```c
+//! uint8_t source[8 * 64], parity[4 * 64]; /* packets of 8 rows of 2 words */
+//! uint32_t answer = guyekpan_encode(8, 12, 8, 2, source, sizeof source, parity, sizeof parity);
+//! ```
 #![tactic(auto)]
 
 ghost use Rattle.std.specs.Prelude.{◌≡◌};
@@ -15,7 +23,7 @@ use one_block::one_block;
 // The number for a check that says no.
 const NO: u32 = 255;
 
-// Fills the parity string of a block from its source string.
+/// Fills the parity string, n - k packets, from the source string, k packets.
 #[unsafe(no_mangle)]
 pub extern "C" fn guyekpan_encode(
     m: u32,
@@ -31,7 +39,7 @@ pub extern "C" fn guyekpan_encode(
     number(encode(one_block(m, n, k, w), source, parity))
 }
 
-// Whether the block is a codeword.
+/// Whether the block string, n packets, is a codeword. The work string has n - k + 1 packets.
 #[unsafe(no_mangle)]
 pub extern "C" fn guyekpan_check(
     m: u32,
@@ -49,7 +57,8 @@ pub extern "C" fn guyekpan_check(
     }
 }
 
-// Restores the packets of the block at the lost positions.
+/// Restores the packets of the block string, n packets, at the lost positions, whatever stands there. The work string has n - k + 1
+/// packets. The strings of words are numbered in a refusal without `losses`: `work` is string 1.
 #[unsafe(no_mangle)]
 pub extern "C" fn guyekpan_repair(
     m: u32,

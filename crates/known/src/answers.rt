@@ -1,4 +1,4 @@
-// What the calls answer for the known block, where a contract relates the answer to the codewords that agree.
+//! What the calls answer for the known block, where a contract relates the answer to the codewords that agree.
 ghost use Rattle.std.specs.Prelude.{◌≡◌, ℕ, List, [], ◌∷◌, Ok, Some, IsOk, IfOk};
 ghost use Rattle.refusal.specs.declared.Refusal.TheVariants.{TooFew, Contradictory};
 ghost use Rattle.refusal.specs.Numbers.{said, refused_with};
@@ -12,7 +12,7 @@ use layout::losses::LossList;
 use layout::shape::{Dimensions, Shape};
 use refusal::Refusal;
 
-// The shape of the known block.
+/// The shape of the known block: one block of three packets of four words, one of them source.
 pub fn known_shape() -> Result<Shape, Refusal>
     ensures accepted { IsOk result }
     ensures made { IfOk result IsSmall }
@@ -26,7 +26,7 @@ pub fn known_shape() -> Result<Shape, Refusal>
     })
 }
 
-// The parity of the block's source rows.
+/// The parity of the block's source packet, as `encode` fills it.
 pub fn encoded() -> Result<[u32; 8], Refusal>
     ensures { result ≡ Ok (8 ∷ 9 ∷ 2 ∷ 4 ∷ 9 ∷ 0xB ∷ 6 ∷ 0xC ∷ []) }
 {
@@ -36,7 +36,7 @@ pub fn encoded() -> Result<[u32; 8], Refusal>
     Ok(parity)
 }
 
-// The block from its position 1 alone.
+/// The block, as `repair` restores it from its position 1 alone.
 pub fn repaired() -> Result<[u32; 12], Refusal>
     ensures { result ≡ Ok known }
 {

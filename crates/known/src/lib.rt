@@ -1,4 +1,9 @@
-// The values that must come out, shown from the definitions that the contracts of the calls name.
+//! The values that must come out, shown from the definitions that the contracts of the calls name: a definition that said something
+//! else would not give them. Nothing but proofs and tests uses this crate.
+//!
+//! ```
+//! assert_eq!(known::answers::repaired(), Ok(known::known_block()));
+//! ```
 #![tactic(auto)]
 
 ghost use Rattle.std.specs.Prelude.{◌≡◌};
@@ -13,7 +18,7 @@ pub mod answers;
 #[cfg(test)]
 mod tests;
 
-// The known block: positions 0 and 1 are parity, position 2 is source.
+/// The known block, of one-word rows in the nibble: positions 0 and 1 are parity, position 2 is source.
 pub fn known_block() -> [u32; 12]
     ensures block { result ≡ known }
     ensures nibble { OfPolynomial 4 0x13 ⟦<Nibble as Arithmetic>⟧ }
