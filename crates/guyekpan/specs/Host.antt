@@ -60,6 +60,7 @@ abbrev pub host_encode_refusal : Dimensions → List ℕ → List ℕ → Option
 host_encode_refusal d source parity =
     or_else (host_shape_refusal d) (or_else (string_refusal d d.sources source 0) (string_refusal d (d.positions - d.sources) parity 1))
 
+-- parity and source string spell a codeword
 pub record HostEncoded (d : Dimensions) (source parity : List ℕ) : Type 0 where
   pub shape : Shape
   pub of : dimensions_of shape ≡ d
@@ -67,14 +68,6 @@ pub record HostEncoded (d : Dimensions) (source parity : List ℕ) : Type 0 wher
 
 abbrev pub encode_number : Dimensions → List ℕ → List ℕ → ℕ
 encode_number d source parity = host_number (host_encode_refusal d source parity)
-
--- the parity string afterwards, for the refusal
-abbrev pub HostEncodedUnless : Option (ℕ × List ℕ) → Dimensions → List ℕ → List ℕ → List ℕ → Type 0
-HostEncodedUnless None d source before after = HostEncoded d source after
-HostEncodedUnless (Some e) d source before after = after ≡ before
-
-abbrev pub AfterHostEncode : Dimensions → List ℕ → List ℕ → List ℕ → Type 0
-AfterHostEncode d source before after = HostEncodedUnless (host_encode_refusal d source before) d source before after
 
 -- CHECK
 

@@ -1,7 +1,7 @@
 // The block calls, on the words that byte strings spell.
-ghost use Rattle.std.specs.Prelude.{◌≡◌};
+ghost use Rattle.std.specs.Prelude.{◌≡◌, IsOk, OnOk, OnErr};
 ghost use Rattle.refusal.specs.Numbers.{refused_with};
-ghost use Rattle.guyekpan.specs.Host.{Small, host_number, host_encode_refusal, HostEncodedUnless, host_check_refusal, AfterHostCheck, HostRepaired};
+ghost use Rattle.guyekpan.specs.Host.{Small, host_number, host_encode_refusal, HostEncoded, host_check_refusal, AfterHostCheck, HostRepaired};
 
 use crate::bytes::{clear, read, write};
 use crate::one_block::{OneBlock, ROOM};
@@ -13,7 +13,8 @@ use refusal::Refusal;
 // The number for an outcome.
 pub(crate) fn number(outcome: Result<(), Refusal>) -> u32
     requires { Small (refused_with outcome) }
-    ensures { result ≡ host_number (refused_with outcome) }
+    ensures number { result ≡ host_number (refused_with outcome) }
+    ensures zero { result ≡ 0 → IsOk outcome }
 {
     match outcome {
         Ok(()) => 0,
@@ -31,7 +32,8 @@ pub(crate) fn number(outcome: Result<(), Refusal>) -> u32
 // Fills the parity string from the source string.
 pub(crate) fn encode(named: Dimensions, source: &[u8], parity: &mut [u8]) -> Result<(), Refusal>
     ensures answer { refused_with result ≡ host_encode_refusal named source.now parity.old }
-    ensures after { HostEncodedUnless (refused_with result) named source.now parity.old parity.new }
+    ensures done { OnOk result (HostEncoded named source.now parity.new) }
+    ensures refused { OnErr result (parity.new ≡ parity.old) }
     ensures small { Small (refused_with result) }
 {
     let one = OneBlock::new(named)?;

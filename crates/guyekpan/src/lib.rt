@@ -10,8 +10,8 @@
 //! ```
 #![tactic(auto)]
 
-ghost use Rattle.std.specs.Prelude.{◌≡◌};
-ghost use Rattle.guyekpan.specs.Host.{named, encode_number, AfterHostEncode, CheckAnswer, RepairAnswer};
+ghost use Rattle.std.specs.Prelude.{◌≡◌, ◌≢◌};
+ghost use Rattle.guyekpan.specs.Host.{named, encode_number, HostEncoded, CheckAnswer, RepairAnswer};
 
 mod bytes;
 mod host;
@@ -34,7 +34,8 @@ pub extern "C" fn guyekpan_encode(
     parity: &mut [u8],
 ) -> u32
     ensures number { result ≡ encode_number (named m n k w) source.now parity.old }
-    ensures after { AfterHostEncode (named m n k w) source.now parity.old parity.new }
+    ensures done { result ≡ 0 → HostEncoded (named m n k w) source.now parity.new }
+    ensures refused { result ≢ 0 → parity.new ≡ parity.old }
 {
     number(encode(one_block(m, n, k, w), source, parity))
 }
