@@ -16,3 +16,6 @@ pub mod Repairs
 pub mod Encodes
 pub mod Writes
 pub mod Fitting
+pub mod Agreeing
+pub mod Contradicting
+pub mod Products

@@ -1,18 +1,21 @@
 -- A repair on the words that a host's strings spell.
-use Rattle.std.proofs.Common.{◌≡◌, ℕ, ◌+◌, ◌<◌, true, false, List, get_or, None, Ok, Err, Result, inl, inr, sym, refl, ap, ◌∙◌, subst, arith}
+use Rattle.std.proofs.Common.{◌≡◌, ℕ, ◌+◌, ◌<◌, true, false, List, get_or, None, Ok, Err, Option, Result, inl, inr, sym, refl, ap, ◌∙◌, subst, arith}
 use Rattle.std.proofs.lemmas.List.{get_or-take}
 use Rattle.algebra.proofs.Marks.{true_false}
+use Rattle.std.specs.Prelude.{IfOk}
 use Rattle.std.specs.Result.{is_ok}
+use Rattle.algebra.specs.Code.{Code}
 use Rattle.refusal.specs.declared.Refusal.{Refusal}
 use Rattle.refusal.specs.Numbers.{said}
 use Rattle.layout.specs.declared.shape.Dimensions.{Dimensions}
 use Rattle.layout.specs.declared.shape.Shape.{Shape}
 use Rattle.layout.specs.declared.losses.LossList.{LossList}
 use Rattle.layout.specs.Sizes.{parity_of, Packets, LostBelow}
-use Rattle.layout.specs.Blocks.{ZeroRun}
+use Rattle.layout.specs.Blocks.{code_of, ZeroRun}
+use Rattle.layout.specs.Checks.{CheckedFirst, at_width}
 use Rattle.layout.specs.Made.{dimensions_of, Listed}
 use Rattle.layout.proofs.Passes.{passed, pass_both, width_ok, run_ok, losses_ok}
-use Rattle.code.specs.Calls.{AfterRepair, repair_refusal}
+use Rattle.code.specs.Calls.{repair_refusal, Repaired, ContradictoryRun}
 use Rattle.guyekpan.specs.Bytes.{words_of, positions_of}
 use Rattle.guyekpan.specs.Host.{octet, host_check_refusal, Positions, HostRepaired}
 
@@ -24,34 +27,41 @@ lost_below s xs l listed k lt =
 
 module _ (d : Dimensions) (s : Shape) (l : LossList) (block losses work work' : List ℕ) (of : dimensions_of s ≡ d) (eight : s.rows ≡ 8)
     (checked : host_check_refusal d block work ≡ None) (positions : Positions s.positions losses) (listed : Listed s (positions_of losses) l) (cleared : ZeroRun work')
-    (xs xs' ws ws' : List ℕ) (spell : xs ≡ words_of block) (whole : Packets s s.positions xs) (room : Packets s (parity_of s + 1) ws) where
-  -- nothing is refused before the work
-  unrefused : repair_refusal 8 s xs l ws ≡ None
+    (xs ws : List ℕ) (spell : xs ≡ words_of block) (whole : Packets s s.positions xs) (room : Packets s (parity_of s + 1) ws) where
+  abbrev C : Code
+  C = code_of s octet
+
+  -- what the checks of a repair refuse, and here they refuse nothing
+  abbrev check : Option (ℕ × List ℕ)
+  check = at_width 8 s (repair_refusal s xs l ws)
+
+  unrefused : check ≡ None
   unrefused =
-      pass_both _ _ (pass_both _ _ (width_ok 8 s eight) (pass_both _ _ (run_ok s s.positions xs 0 whole) (run_ok s (parity_of s + 1) ws 1 room)))
-      (losses_ok s l (lost_below s (positions_of losses) l listed) (let few = listed.enough in let len = listed.len in omega arith))
+      pass_both _ _ (width_ok 8 s eight)
+      (pass_both _ _ (pass_both _ _ (run_ok s s.positions xs 0 whole) (run_ok s (parity_of s + 1) ws 1 room))
+      (losses_ok s l (lost_below s (positions_of losses) l listed) (let few = listed.enough in let len = listed.len in omega arith)))
 
   named_positions : Positions d.positions losses
   named_positions = rw (ap (λ d. Dimensions.positions d) of) at positions
 
-  pub repaired : (block' : List ℕ) (r : Result (Unit {0}) Refusal) → words_of block' ≡ xs' → is_ok r ≡ true → AfterRepair 8 s octet l xs xs' ws ws' r
+  pub repaired : (xs' block' : List ℕ) (r : Result (Unit {0}) Refusal) → words_of block' ≡ xs' → is_ok r ≡ true → IfOk r (λ u. Repaired C l xs xs')
       → HostRepaired d losses block block' work work' r
-  repaired block' (Ok u) back ok a = record {
+  repaired xs' block' (Ok u) back ok a = record {
     shape = s;
     of = of;
     passed = checked;
     positions = named_positions;
     list = l;
     listed = listed;
-    restored = rw (spell, ← back) at a.restored;
+    restored = rw (spell, ← back) at a;
     cleared = cleared;
   }
-  repaired block' (Err e) back ok a = absurd (true_false false ok refl)
+  repaired xs' block' (Err e) back ok a = absurd (true_false false ok refl)
 
-  pub unrepaired : (r : Result (Unit {0}) Refusal) → is_ok r ≡ false → AfterRepair 8 s octet l xs xs' ws ws' r → HostRepaired d losses block block work work' r
+  pub unrepaired : (r : Result (Unit {0}) Refusal) → is_ok r ≡ false → CheckedFirst check (ContradictoryRun C l xs) r → HostRepaired d losses block block work work' r
   unrepaired (Ok u) not a = absurd (true_false true refl not)
   unrepaired (Err e) not a = elim a [
-    | inl refused ↦ passed (repair_refusal 8 s xs l ws) (said e) unrefused (sym refused.refusal)
+    | inl refused ↦ passed check (said e) unrefused (sym refused)
     | inr tried ↦ (
       refl,
       inr record {
@@ -61,7 +71,7 @@ module _ (d : Dimensions) (s : Shape) (l : LossList) (block losses work work' : 
         positions = named_positions;
         list = l;
         listed = listed;
-        restored = rw (spell) at (rw tried.restored.same_block at tried.restored);
+        restored = (rw spell at tried.1, refl);
         cleared = cleared;
       },
     )

@@ -25,7 +25,7 @@ use Rattle.history.specs.Ledger.{Ledger}
 use Rattle.history.specs.Boards.{Board}
 use Rattle.history.specs.Law.{InShape, Agrees, held, Repaired, FetchedAt}
 use Rattle.history.specs.Steps.{repaired, fetched, counted, Repairs, Fetches, Counts}
-use Rattle.history.proofs.Agreeing.{one_moved, several_moved, none_moved, contradiction_moved}
+use Rattle.code.proofs.Agreeing.{one_moved, several_moved, none_moved, contradiction_moved}
 use Rattle.history.proofs.Linked.{Kept, Linked, by_shape, to_slots, to_ledger, agree_slots, agree_ledger, one_whole, slot_from, no_slot, count_held, slot_there, there_slot}
 
 -- What an answer tells of what the receiver returned

@@ -1,14 +1,11 @@
 mod Ledgers
 mod Shapes
-mod Agreeing
-mod Products
 mod Linked
 mod Keeping
 mod Lawful
 mod Taking
 mod Joint
 mod Answered
-mod Contradicting
 mod Same
 mod Runs
 mod Trials

@@ -21,7 +21,7 @@ use Rattle.history.specs.Boards.{Board}
 use Rattle.history.specs.Law.{Agrees, held, IsThere}
 use Rattle.history.proofs.Ledgers.{accepted_any, any_is_accepted, has_whole, has_accepted}
 use Rattle.history.proofs.Shapes.{same_packets}
-use Rattle.history.proofs.Agreeing.{Moves}
+use Rattle.code.proofs.Agreeing.{Moves}
 
 -- the dimensions of the shape that is set
 abbrev pub present : Option Shape → Option Dimensions

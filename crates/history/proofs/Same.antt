@@ -22,10 +22,10 @@ use Rattle.history.specs.Ledger.{Ledger, ledger, has}
 use Rattle.history.specs.Boards.{Board, SameProduct}
 use Rattle.history.specs.Law.{InShape, Agrees, held, IsThere, TakenAt, Repaired, FetchedAt, TakeLaw, CallLaw, History}
 use Rattle.history.proofs.Shapes.{same_shape}
-use Rattle.history.proofs.Agreeing.{Moves, one_moved, several_moved, none_moved}
-use Rattle.history.proofs.Products.{same_codeword, same_syndrome}
+use Rattle.code.proofs.Agreeing.{Moves, one_moved, several_moved, none_moved}
+use Rattle.code.proofs.Products.{same_codeword, same_syndrome}
 use Rattle.history.proofs.Answered.{refused_only}
-use Rattle.history.proofs.Contradicting.{contradiction_only}
+use Rattle.code.proofs.Contradicting.{contradiction_only}
 use Rattle.history.proofs.Linked.{match_from}
 
 -- runs of zeros of one length are equal

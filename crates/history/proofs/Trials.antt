@@ -22,7 +22,7 @@ use Rattle.history.proofs.Linked.{present, Linked, linked_blank, one_whole}
 use Rattle.history.proofs.Keeping.{run_splits}
 use Rattle.history.proofs.Lawful.{repair_law, fetch_law, count_law}
 use Rattle.history.proofs.Taking.{take_law}
-use Rattle.history.proofs.Products.{same_codeword}
+use Rattle.code.proofs.Products.{same_codeword}
 use Rattle.history.proofs.Joint.{recovers}
 use Rattle.history.proofs.Same.{same_answers}
 

@@ -22,7 +22,9 @@ use Rattle.layout.specs.Blocks.{code_of, block_at, ZeroRun}
 use Rattle.layout.specs.Checks.{loss_refusal}
 use Rattle.layout.proofs.Passes.{losses_many, losses_ok, run_ok, width_ok, pass_both}
 use Rattle.code.specs.Lost.{AgreeOff, Contradicted}
-use Rattle.code.specs.Calls.{CodewordRun, Encoded, Repaired, repair_refusal, AfterRepair}
+use Rattle.code.specs.Calls.{CodewordRun, Encoded, Repaired, repair_refusal, ContradictoryRun}
+use Rattle.layout.specs.Checks.{CheckedFirst, at_width}
+use Rattle.std.specs.Prelude.{IfOk}
 use Rattle.known.specs.Known.{nibble, small, IsSmall, Lists, known, changed, RepairsChanged}
 use Rattle.known.proofs.Forced.{encoded, repaired, contradicted}
 use Rattle.known.proofs.Given.{restores, refuses}
@@ -139,17 +141,17 @@ module _ (s : Shape) (e : IsSmall s) where
   field : FieldLaws s.rows nibble (inverse 4 0x13)
   field = subst (λ d. FieldLaws d.rows nibble (inverse 4 0x13)) (sym e) (laws 4 0x13 primitive)
 
-  codeword : CodewordRun s nibble known
+  codeword : CodewordRun (code_of s nibble) known
   codeword = subst (IsCodeword known) (sym e) known_is
 
   eight : 8 ≡ parity_of s * packet_of s
   eight = subst (λ d. 8 ≡ (d.positions - d.sources) * (d.rows * d.words)) (sym e) refl
 
-  pub encodes : Encoded s nibble (drop 8 known) (take 8 known)
+  pub encodes : Encoded (code_of s nibble) (drop 8 known) (take 8 known)
   encodes = encoded s nibble (inverse 4 0x13) field (drop 8 known) (take 8 known) eight codeword
 
   -- encode answers with the parity of the known block
-  pub parity_is : (after : List ℕ) → length after ≡ 8 → Encoded s nibble (drop 8 known) after → after ≡ take 8 known
+  pub parity_is : (after : List ℕ) → length after ≡ 8 → Encoded (code_of s nibble) (drop 8 known) after → after ≡ take 8 known
   parity_is after long is = encodes.only after (long ∙ eight) is.codeword
 
   pub too_few_made : LossesRefused s (0 ∷ 1 ∷ 2 ∷ []) (said TooFew)
@@ -166,7 +168,7 @@ module _ (s : Shape) (e : IsSmall s) where
         let long = is.0 in
         rw (positions, lost_is l xs is k (omega arith)) (ltb→lt _ _ (each_at (length xs) _ t k (omega arith)))
 
-    pub repairs : Lists l (0 ∷ 2 ∷ []) → (before : List ℕ) → AgreeOff s nibble l (block_at s known) (block_at s before) → Repaired s nibble l before known
+    pub repairs : Lists l (0 ∷ 2 ∷ []) → (before : List ℕ) → AgreeOff (code_of s nibble) l (block_at (code_of s nibble) known) (block_at (code_of s nibble) before) → Repaired (code_of s nibble) l before known
     unfolding each
     repairs is before agree = repaired s nibble (inverse 4 0x13) field l (below (0 ∷ 2 ∷ []) is tt) (rw (parity, is.0) (omega arith)) before known codeword agree
 
@@ -174,48 +176,49 @@ module _ (s : Shape) (e : IsSmall s) where
     unfolding each
     too_few_used is = losses_many s l (below (0 ∷ 1 ∷ 2 ∷ []) is tt) (rw (parity, is.0) (omega arith))
 
-    pub contradicts : Lists l [] → Contradicted s nibble l (block_at s (changed known)) 0 0
+    pub contradicts : Lists l [] → Contradicted (code_of s nibble) l (block_at (code_of s nibble) (changed known)) 0 0
     unfolding each
     contradicts is =
-        contradicted s nibble (inverse 4 0x13) field l (below [] is tt) (block_at s (changed known)) (block_at s (changed known)) (λ q h f i c p r. refl) 0 0
+        contradicted s nibble (inverse 4 0x13) field l (below [] is tt) (block_at (code_of s nibble) (changed known)) (block_at (code_of s nibble) (changed known)) (λ q h f i c p r. refl) 0 0
         (rw is.0 (omega arith)) (rw parity (omega arith)) packet (λ μ h. absurd (not-suc-le-zero h)) (λ i c p r h. absurd (not-suc-le-zero h))
         (subst (Here (changed known) 0) (sym e) (here (changed known) 0 first_word))
 
-    pub contradicts_behind : Lists l (0 ∷ []) → Contradicted s nibble l (block_at s (changed known)) 1 0
+    pub contradicts_behind : Lists l (0 ∷ []) → Contradicted (code_of s nibble) l (block_at (code_of s nibble) (changed known)) 1 0
     unfolding each
     contradicts_behind is =
-        let agree : AgreeOff s nibble l (block_at s solved) (block_at s (changed known)) =
+        let agree : AgreeOff (code_of s nibble) l (block_at (code_of s nibble) solved) (block_at (code_of s nibble) (changed known)) =
         λ q h f. let n = not_listed l (0 ∷ []) is q f 0 (omega arith) in subst Others (sym e) others q (omega arith) h in
-        contradicted s nibble (inverse 4 0x13) field l (below (0 ∷ []) is tt) (block_at s (changed known)) (block_at s solved) agree 1 0
+        contradicted s nibble (inverse 4 0x13) field l (below (0 ∷ []) is tt) (block_at (code_of s nibble) (changed known)) (block_at (code_of s nibble) solved) agree 1 0
         (rw is.0 (omega arith)) (rw parity (omega arith)) packet
         (subst (Lower solved 1) (sym e) lower)
         (λ i c p r h. absurd (not-suc-le-zero h)) (subst (Here solved 1) (sym e) (here solved 1 first_word_behind))
 
     -- the checks of a repair pass, for runs of twelve words
     passes : (xs : List ℕ) → Lists l xs → length xs ≤ 2 → T (each (length xs) (λ k. ltb (get_or xs k 0) 3))
-        → (block work : List ℕ) → length block ≡ 12 → length work ≡ 12 → repair_refusal 4 s block l work ≡ None
+        → (block work : List ℕ) → length block ≡ 12 → length work ≡ 12 → at_width 4 s (repair_refusal s block l work) ≡ None
     passes xs is few t block work long room =
         let size : 12 ≡ s.positions * packet_of s = subst (λ d. 12 ≡ d.positions * (d.rows * d.words)) (sym e) refl in
         let size' : 12 ≡ (parity_of s + 1) * packet_of s = subst (λ d. 12 ≡ (d.positions - d.sources + 1) * (d.rows * d.words)) (sym e) refl in
-        pass_both _ _
-        (pass_both _ _ (width_ok 4 s (ap (λ d. d.rows) e)) (pass_both _ _ (run_ok s s.positions block 0 (long ∙ size)) (run_ok s (parity_of s + 1) work 1 (room ∙ size'))))
-        (losses_ok s l (below xs is t) (rw (parity, is.0) few))
+        pass_both _ _ (width_ok 4 s (ap (λ d. d.rows) e))
+        (pass_both _ _ (pass_both _ _ (run_ok s s.positions block 0 (long ∙ size)) (run_ok s (parity_of s + 1) work 1 (room ∙ size')))
+        (losses_ok s l (below xs is t) (rw (parity, is.0) few)))
 
     -- so it answers with the known block, or with the sum and the word
-    module _ (after work work' : List ℕ) (room : length work ≡ 12) (r : Result (Unit {0}) Refusal) where
+    module _ (after work : List ℕ) (room : length work ≡ 12) (r : Result (Unit {0}) Refusal) where
       pub restored : Lists l (0 ∷ 2 ∷ []) → (before : List ℕ) → length before ≡ 12
           → take 4 (drop 4 known) ≡ take 4 (drop 4 before)
-          → AfterRepair 4 s nibble l before after work work' r → (refused_with r ≡ None) × (after ≡ known)
+          → IfOk r (λ u. Repaired (code_of s nibble) l before after)
+          → CheckedFirst (at_width 4 s (repair_refusal s before l work)) (ContradictoryRun (code_of s nibble) l before) r → (refused_with r ≡ None) × (after ≡ known)
       unfolding each
-      restored is before long held a =
-          let agree : AgreeOff s nibble l (block_at s known) (block_at s before) =
+      restored is before long held a n =
+          let agree : AgreeOff (code_of s nibble) l (block_at (code_of s nibble) known) (block_at (code_of s nibble) before) =
           λ q h f.
           let n = not_listed l (0 ∷ 2 ∷ []) is q f 0 (omega arith) in
           let m = not_listed l (0 ∷ 2 ∷ []) is q f 1 (omega arith) in
           let middle : 1 ≡ q = let k = positions in omega arith in
-          subst (λ u. SamePacket (code_of s nibble) (block_at s known u) (block_at s before u)) middle
+          subst (λ u. SamePacket (code_of s nibble) (block_at (code_of s nibble) known u) (block_at (code_of s nibble) before u)) middle
           (subst (λ d. SamePacket (code d) (at d known 1) (at d before 1)) (sym e) (λ i c p r. middle_is known i c p r ∙ ap (λ xs. get_or xs (i * 1 + c) 0) held ∙ sym (middle_is before i c p r))) in
-          restores 4 s nibble l before after work work' (passes (0 ∷ 2 ∷ []) is (omega arith) tt before work long room) r known (repairs is before agree) a
+          restores s nibble l before after _ (passes (0 ∷ 2 ∷ []) is (omega arith) tt before work long room) r known (repairs is before agree) a n
 
 module _ (work work' : List ℕ) (room : length work ≡ 12) (r : Result (Unit {0}) Refusal) where
   pub refused_none : RepairsChanged [] work work' r → (refused_with r ≡ Some (said (Contradictory 0 0))) × ZeroRun work'
@@ -223,11 +226,11 @@ module _ (work work' : List ℕ) (room : length work ≡ 12) (r : Result (Unit {
   refused_none t =
       let s = t.shape in
       let pass = passes s t.small t.losses [] t.lists (omega arith) tt (changed known) work refl room in
-      refuses 4 s nibble t.losses (changed known) t.block work work' pass r 0 0 (contradicts s t.small t.losses t.lists) t.after
+      (refuses s nibble t.losses (changed known) t.block _ pass r 0 0 (contradicts s t.small t.losses t.lists) t.repaired t.answer, t.cleared.0 pass)
 
   pub refused_first : RepairsChanged (0 ∷ []) work work' r → (refused_with r ≡ Some (said (Contradictory 1 0))) × ZeroRun work'
   unfolding each
   refused_first t =
       let s = t.shape in
       let pass = passes s t.small t.losses (0 ∷ []) t.lists (omega arith) tt (changed known) work refl room in
-      refuses 4 s nibble t.losses (changed known) t.block work work' pass r 1 0 (contradicts_behind s t.small t.losses t.lists) t.after
+      (refuses s nibble t.losses (changed known) t.block _ pass r 1 0 (contradicts_behind s t.small t.losses t.lists) t.repaired t.answer, t.cleared.0 pass)

@@ -1,18 +1,19 @@
 -- Known values, by the definitions that the contracts of the calls name.
-use Rattle.std.specs.Prelude.{◌≡◌, ℕ, List, [], ◌∷◌, length, take, drop, set, Some, None, Result}
+use Rattle.std.specs.Prelude.{IfOk, Option, ◌≡◌, ℕ, List, [], ◌∷◌, length, take, drop, set, Some, None, Result}
 use Rattle.refusal.specs.declared.Refusal.{Refusal}
 use Rattle.refusal.specs.declared.Refusal.TheVariants.{BadCounts, TooLong, TooFew, BadFormat}
 use Rattle.refusal.specs.Numbers.{said}
 use Rattle.field.specs.declared.Arithmetic
+use Rattle.algebra.specs.Code.{Code}
 use Rattle.galois.specs.Field.{product, inverse, power}
 use Rattle.layout.specs.declared.shape.Dimensions.{Dimensions}
 use Rattle.layout.specs.declared.shape.Shape.{Shape}
 use Rattle.layout.specs.declared.losses.LossList.{LossList}
 use Rattle.layout.specs.Made.{dimensions_of, shape_refusal, lost_at, LossesMade, LossesRefused}
-use Rattle.layout.specs.Blocks.{block_at}
-use Rattle.layout.specs.Checks.{loss_refusal}
+use Rattle.layout.specs.Blocks.{code_of, block_at}
+use Rattle.layout.specs.Checks.{CheckedFirst, Cleared, at_width, loss_refusal}
 use Rattle.code.specs.Lost.{AgreeOff, Contradicted}
-use Rattle.code.specs.Calls.{Encoded, Repaired, AfterRepair}
+use Rattle.code.specs.Calls.{Encoded, Repaired, repair_refusal, ContradictoryRun}
 use Rattle.frame.specs.Frames.{shape, packet, frame_words, parse}
 use Rattle.store.specs.Grids.{format_refusal}
 
@@ -55,6 +56,14 @@ pub record MadeOf (positions : List ℕ) (r : Result LossList Refusal) : Type 0 
   pub small : IsSmall shape
   pub made : LossesMade shape positions r
 
+-- the code of a shape over the nibble
+abbrev pub small_code : Shape → Code
+small_code s = code_of s nibble
+
+-- what the checks of a repair of the changed block refuse
+abbrev pub small_repair_refusal : Shape → LossList → List ℕ → Option (ℕ × List ℕ)
+small_repair_refusal s l work = at_width 4 s (repair_refusal s (changed known) l work)
+
 -- the answer of a repair of the changed block with these positions lost, and the work run before and after
 pub record RepairsChanged (positions work work' : List ℕ) (r : Result (Unit {0}) Refusal) : Type 0 where
   pub shape : Shape
@@ -62,7 +71,9 @@ pub record RepairsChanged (positions work work' : List ℕ) (r : Result (Unit {0
   pub losses : LossList
   pub lists : Lists losses positions
   pub block : List ℕ
-  pub after : AfterRepair 4 shape nibble losses (changed known) block work work' r
+  pub repaired : IfOk r (λ u. Repaired (small_code shape) losses (changed known) block)
+  pub answer : CheckedFirst (small_repair_refusal shape losses work) (ContradictoryRun (small_code shape) losses (changed known)) r
+  pub cleared : Cleared (small_repair_refusal shape losses work) work work'
 
 pub record KnownValues (block : List ℕ) : Type 0 where
   -- powers of α, and an inverse
@@ -72,16 +83,17 @@ pub record KnownValues (block : List ℕ) : Type 0 where
   pub octet_power_8 : power octet 2 8 ≡ 0x1D
   pub octet_power_9 : power octet 2 9 ≡ 0x3A
   -- positions 0 and 1 are the parity of position 2
-  pub encodes : (s : Shape) → IsSmall s → Encoded s nibble (drop 8 block) (take 8 block)
+  pub encodes : (s : Shape) → IsSmall s → Encoded (small_code s) (drop 8 block) (take 8 block)
   -- positions 0 and 2 come back, whatever stands there
   pub repairs : (s : Shape) (l : LossList) → IsSmall s → Lists l (0 ∷ 2 ∷ []) → (before : List ℕ)
-      → AgreeOff s nibble l (block_at s block) (block_at s before) → Repaired s nibble l before block
+      → AgreeOff (small_code s) l (block_at (small_code s) block) (block_at (small_code s) before) → Repaired (small_code s) l before block
   -- three positions are too many, in a list that is made and in one that is used
   pub too_few_made : (s : Shape) → IsSmall s → LossesRefused s (0 ∷ 1 ∷ 2 ∷ []) (said TooFew)
   pub too_few_used : (s : Shape) (l : LossList) → IsSmall s → Lists l (0 ∷ 1 ∷ 2 ∷ []) → loss_refusal s l ≡ Some (said TooFew)
   -- a word changed, with nothing lost: sum 0, word 0; and with position 0 lost: sum 1, word 0
-  pub contradicts : (s : Shape) (l : LossList) → IsSmall s → Lists l [] → Contradicted s nibble l (block_at s (changed block)) 0 0
-  pub contradicts_behind : (s : Shape) (l : LossList) → IsSmall s → Lists l (0 ∷ []) → Contradicted s nibble l (block_at s (changed block)) 1 0
+  pub contradicts : (s : Shape) (l : LossList) → IsSmall s → Lists l [] → Contradicted (small_code s) l (block_at (small_code s) (changed block)) 0 0
+  pub contradicts_behind : (s : Shape) (l : LossList) → IsSmall s → Lists l (0 ∷ [])
+      → Contradicted (small_code s) l (block_at (small_code s) (changed block)) 1 0
   -- the shape frame, and the frame of position 2 of block 0
   pub shape_written : frame_words (shape small) ≡ 0x14003001 ∷ 0x20010001 ∷ []
   pub shape_read : parse (0x14003001 ∷ 0x20010001 ∷ []) ≡ shape small

@@ -4,6 +4,6 @@ pub returns-clause-after : goal.returns-clause-after
 returns-clause-after c = record {
   shape = c.in_ok-one.one.shape;
   of = c.in_ok-one.ensures.of;
-  says = rw (← c.read.ensures) at c.in_ok-yes.ensures.after.0;
+  says = rw (← c.read.ensures) at c.in_ok-yes.ensures.says;
   cleared = c.clear.ensures;
 }

@@ -12,8 +12,8 @@ returns-then-is_ok-clause-after c =
     let long : Packets s s.positions c.read.new.words = search (rules, places) in
     let room : Packets s (parity_of s + 1) (take c.in_ok-r.r (replicate 8192 0)) = search (rules, places) in
     repaired c.args.named s c.in_ok-lost.lost c.args.block.now c.args.losses.now c.args.work.now c.clear.new.bytes
-    c.in_ok-one.ensures.of c.in_ok-one.one.octet checked c.in_ok-lost.ensures.0 c.in_ok-lost.ensures.1 c.clear.ensures _ _ _ _
-    (sym c.read.ensures) long room c.write.new.bytes c.repair-outcome.result c.write.ensures (sym c.is_ok.ensures.value ∙ c.if-is_ok.true) c.repair-outcome.ensures
+    c.in_ok-one.ensures.of c.in_ok-one.one.octet checked c.in_ok-lost.ensures.0 c.in_ok-lost.ensures.1 c.clear.ensures _ _
+    (sym c.read.ensures) long room _ c.write.new.bytes c.repair-outcome.result c.write.ensures (sym c.is_ok.ensures.value ∙ c.if-is_ok.true) c.repair-outcome.ensures.repaired
 
 pub returns-else-is_ok-clause-after : goal.returns-else-is_ok-clause-after
 returns-else-is_ok-clause-after c =
@@ -22,5 +22,5 @@ returns-else-is_ok-clause-after c =
     let long : Packets s s.positions c.read.new.words = search (rules, places) in
     let room : Packets s (parity_of s + 1) (take c.in_ok-r.r (replicate 8192 0)) = search (rules, places) in
     unrepaired c.args.named s c.in_ok-lost.lost c.args.block.now c.args.losses.now c.args.work.now c.clear.new.bytes
-    c.in_ok-one.ensures.of c.in_ok-one.one.octet checked c.in_ok-lost.ensures.0 c.in_ok-lost.ensures.1 c.clear.ensures _ _ _ _
-    (sym c.read.ensures) long room c.repair-outcome.result (sym c.is_ok.ensures.value ∙ c.if-is_ok.false) c.repair-outcome.ensures
+    c.in_ok-one.ensures.of c.in_ok-one.one.octet checked c.in_ok-lost.ensures.0 c.in_ok-lost.ensures.1 c.clear.ensures _ _
+    (sym c.read.ensures) long room c.repair-outcome.result (sym c.is_ok.ensures.value ∙ c.if-is_ok.false) c.repair-outcome.ensures.answer

@@ -7,5 +7,7 @@ returns c = λ positions is. record {
   losses = c.args.lost.now;
   lists = is;
   block = c.repair.new.block;
-  after = rw c.known_block-block.ensures.block at c.repair.ensures;
+  repaired = rw c.known_block-block.ensures.block at c.repair.ensures.repaired;
+  answer = rw c.known_block-block.ensures.block at c.repair.ensures.answer;
+  cleared = rw c.known_block-block.ensures.block at c.repair.ensures.work;
 }
