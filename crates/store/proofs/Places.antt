@@ -7,15 +7,17 @@ use Rattle.std.proofs.lemmas.Bool.{cases_order, cases_Bool, and_parts, ltb-true,
 use Rattle.std.proofs.lemmas.Bool.Decides.{nat_tests}
 use Rattle.std.proofs.lemmas.Nat.{mul-add-lt, div-mul-add, mod-mul-add}
 use Rattle.store.specs.declared.slots.Format.{Format}
-use Rattle.store.specs.Grids.{format_fits, Filled, Emptied}
-use Rattle.store.specs.Layout.{slot_at, slot_put, slot_words, packet_of, rows_of, has_slot, grid_of, Place}
+use Rattle.store.specs.declared.slots.Slot.{Slot}
+use Rattle.store.specs.Calls.{fits_in, EmptyGrid}
+use Rattle.store.specs.Grids.{format_fits, Filled}
+use Rattle.store.specs.Layout.{slot_at, slot_put, slot_words, packet_of, rows_of, has_slot, grid_in, Place}
 
 -- the slots of a format that fits take no more than the capacity
 fits_product : (k r c n : ℕ) → format_fits k r c n ≡ true → r * c * (n + 1) ≤ k
 fits_product k r c n e = grind (arith, nat_tests)
 
 -- a slot ends within the words
-pub slot_within : (k : ℕ) (f : Format) (i j : ℕ) → format_fits k f.rows f.columns f.size ≡ true → i < f.rows → j < f.columns → slot_at f i j + f.size + 1 ≤ k
+pub slot_within : (k : ℕ) (f : Format) (i j : ℕ) → fits_in k f ≡ true → i < f.rows → j < f.columns → slot_at f i j + f.size + 1 ≤ k
 slot_within k f i j fits li lj =
     let le = fits_product k f.rows f.columns f.size fits in
     let p = mul-add-lt i f.columns j f.rows li lj in
@@ -45,30 +47,30 @@ words_there xs new at n b le e way = elim way [
   | inr h ↦ ap (take (b + n + 1 - b)) (drop-put_mid at (n + 1) xs new b (omega arith) (omega arith) e)
 ]
 
-replaced : (empty : List ℕ → Bool) (f : Format) (i j at k mark : ℕ) (xs new ws : List ℕ) → Place (length xs) f i j at
+replaced : (empty : List ℕ → Bool) (f : Format) (s : Slot) (at k mark : ℕ) (xs new ws : List ℕ) → Place (length xs) f s at
     → k ≡ f.size + 1 → length ws ≡ f.size → new ≡ mark ∷ ws → empty (mark ∷ ws) ≡ false
-    → Filled (grid_of empty f xs) i j ws (grid_of empty f (put_mid at k xs new))
-replaced empty f i j at k mark xs new ws p ends len is e =
+    → Filled (grid_in empty f xs) s.row s.column ws (grid_in empty f (put_mid at k xs new))
+replaced empty f s at k mark xs new ws p ends len is e =
     let n = f.size in
     let c = f.columns in
     let h = p.within in
     let at_is = p.at_is in
     let l : length new ≡ n + 1 = ap length is ∙ omega arith in
     let same : length (put_mid at (n + 1) xs new) ≡ length xs = search (rules, places) in
-    subst (λ m. Filled (grid_of empty f xs) i j ws (grid_of empty f (put_mid at m xs new))) (sym ends)
+    subst (λ m. Filled (grid_in empty f xs) s.row s.column ws (grid_in empty f (put_mid at m xs new))) (sym ends)
     (record {
       rows_same = ap (λ m. rows_of m f) same;
       columns_same = refl;
       size_same = refl;
-      here = cond-true _ _ None (ap (λ m. has_slot m f i j) same ∙ p.is_inside)
+      here = cond-true _ _ None (ap (λ m. has_slot m f s.row s.column) same ∙ p.is_inside)
           ∙ ap (λ b. packet_of empty (slot_words (put_mid at (n + 1) xs new) b n)) (sym at_is)
           ∙ ap (packet_of empty) (between-put_mid at (n + 1) xs new (at + n + 1) (omega arith) (omega arith) ∙ is) ∙ cond-false _ None _ e;
       others = λ a b ne. ap (λ m. cond (has_slot m f a b) (packet_of empty (slot_words (put_mid at (n + 1) xs new) (slot_at f a b) n)) None) same
           ∙ elim (cases_Bool (has_slot (length xs) f a b)) [
             | inl t ↦
                 let lb : b < c = ltb-true b c (and_parts _ _ t).1 in
-                let lj : j < c = ltb-true j c (and_parts _ _ p.is_inside).1 in
-                let way = slots_apart (a * c + b) (i * c + j) (n + 1) (places_differ a b i j c lb lj ne) in
+                let lj : s.column < c = ltb-true s.column c (and_parts _ _ p.is_inside).1 in
+                let way = slots_apart (a * c + b) (s.row * c + s.column) (n + 1) (places_differ a b s.row s.column c lb lj ne) in
                 ap (λ l. cond (has_slot (length xs) f a b) (packet_of empty l) None)
                 (words_there xs new at n (slot_at f a b) h l (elim way [ inl w ↦ inl (omega arith) | inr w ↦ inr (omega arith) ]))
             | inr o ↦ cond-false _ _ _ o ∙ sym (cond-false _ _ _ o)
@@ -76,16 +78,16 @@ replaced empty f i j at k mark xs new ws p ends len is e =
     })
 
 -- the grid after the words of a slot were overwritten by the mark of a filled one and its packet
-pub filled : (empty : List ℕ → Bool) (f : Format) (i j at mark : ℕ) (xs ws : List ℕ) → Place (length xs) f i j at → length ws ≡ f.size → empty (mark ∷ ws) ≡ false
-    → Filled (grid_of empty f xs) i j ws (grid_of empty f (slot_put xs at (mark ∷ ws)))
-filled empty f i j at mark xs ws p len e =
-    subst (λ l. Filled (grid_of empty f xs) i j ws (grid_of empty f (take at xs ++ (mark ∷ ws ++ l)))) (drop-drop (suc (length ws)) at xs)
-    (replaced empty f i j at (suc (length ws)) mark xs (mark ∷ ws) ws p (omega arith) len refl e)
+pub filled : (empty : List ℕ → Bool) (f : Format) (s : Slot) (at mark : ℕ) (xs ws : List ℕ) → Place (length xs) f s at → length ws ≡ f.size → empty (mark ∷ ws) ≡ false
+    → Filled (grid_in empty f xs) s.row s.column ws (grid_in empty f (slot_put xs at (mark ∷ ws)))
+filled empty f s at mark xs ws p len e =
+    subst (λ l. Filled (grid_in empty f xs) s.row s.column ws (grid_in empty f (take at xs ++ (mark ∷ ws ++ l)))) (drop-drop (suc (length ws)) at xs)
+    (replaced empty f s at (suc (length ws)) mark xs (mark ∷ ws) ws p (omega arith) len refl e)
 
 -- the grid of words that hold empty slots everywhere
-pub emptied : (empty : List ℕ → Bool) (f : Format) (xs : List ℕ) → format_fits (length xs) f.rows f.columns f.size ≡ true
+pub emptied : (empty : List ℕ → Bool) (f : Format) (xs : List ℕ) → fits_in (length xs) f ≡ true
     → ((at : ℕ) → at + f.size + 1 ≤ length xs → empty (slot_words xs at f.size) ≡ true)
-    → Emptied f.rows f.columns f.size (grid_of empty f xs)
+    → EmptyGrid f (grid_in empty f xs)
 emptied empty f xs fits all =
     let rows : rows_of (length xs) f ≡ f.rows = cond-true _ f.rows 0 fits in
     record {
@@ -109,9 +111,9 @@ blank_slot blank k at n le =
     ap (take (at + n + 1 - at)) (drop-replicate at k blank) ∙ take-replicate (at + n + 1 - at) (k - at) blank (omega arith) ∙ ap (λ l. replicate l blank) m
 
 -- the grid of such words
-pub cleared : (empty : List ℕ → Bool) (f : Format) (xs : List ℕ) (blank k : ℕ) → format_fits k f.rows f.columns f.size ≡ true → xs ≡ replicate k blank
-    → ((n : ℕ) → empty (blank ∷ replicate n blank) ≡ true) → Emptied f.rows f.columns f.size (grid_of empty f xs)
+pub cleared : (empty : List ℕ → Bool) (f : Format) (xs : List ℕ) (blank k : ℕ) → fits_in k f ≡ true → xs ≡ replicate k blank
+    → ((n : ℕ) → empty (blank ∷ replicate n blank) ≡ true) → EmptyGrid f (grid_in empty f xs)
 cleared empty f xs blank k fits e law =
     let len : length xs ≡ k = ap length e ∙ length-replicate k blank in
-    emptied empty f xs (ap (λ l. format_fits l f.rows f.columns f.size) len ∙ fits)
+    emptied empty f xs (ap (λ l. fits_in l f) len ∙ fits)
     (λ at le. ap (λ l. empty (slot_words l at f.size)) e ∙ ap empty (blank_slot blank k at f.size (omega arith)) ∙ law f.size)

@@ -1,4 +1,4 @@
--- What a slot store means, and what its calls answer and do.
+-- What a slot store means, and what its calls answer and do, by the numbers of a format and a slot.
 use Rattle.std.specs.Prelude.{◌≡◌, ℕ, ◌+◌, ◌*◌, Bool, cond, ◌&&◌, List, length, is_some, Some, None, Ok, Err, Option, Result, ◌==◌, ◌≢◌, nat_le, nat_lt}
 use Rattle.refusal.specs.declared.Refusal.{Refusal}
 use Rattle.refusal.specs.declared.Refusal.TheVariants.{BadFormat, OutsideGrid, SlotFilled, SlotEmpty, WrongSize}
@@ -45,10 +45,6 @@ pub record Emptied (r c n : ℕ) (h : Grid) : Type 0 where
   pub size_is : h.size ≡ n
   pub empty : (i j : ℕ) → h.slots i j ≡ None
 
-abbrev pub AfterFormat : Result (Unit {0}) Refusal → Grid → ℕ → ℕ → ℕ → Grid → Type 0
-AfterFormat (Ok u) g r c n h = Emptied r c n h
-AfterFormat (Err e) g r c n h = h ≡ g
-
 -- Held
 
 abbrev pub held_answer : Grid → ℕ → ℕ → Result Bool Refusal
@@ -69,10 +65,6 @@ pub record Filled (g : Grid) (i j : ℕ) (ws : List ℕ) (h : Grid) : Type 0 whe
   pub size_same : h.size ≡ g.size
   pub here : h.slots i j ≡ Some ws
   pub others : (a b : ℕ) → (a ≡ i → b ≢ j) → h.slots a b ≡ g.slots a b
-
-abbrev pub AfterPut : Result (Unit {0}) Refusal → Grid → ℕ → ℕ → List ℕ → Grid → Type 0
-AfterPut (Ok u) g i j ws h = Filled g i j ws h
-AfterPut (Err e) g i j ws h = h ≡ g
 
 -- Get
 

@@ -1,13 +1,19 @@
 -- How slots lie in words: one after another, row by row, each a mark and then its packet.
-use Rattle.std.specs.Prelude.{◌≡◌, ℕ, ◌+◌, ◌*◌, ◌≤◌, Bool, true, false, cond, ◌&&◌, List, ◌++◌, length, take, drop, replicate, Some, None, Ok, Err, Option, Result, ◌==◌, nat_lt, slice_index}
+use Rattle.std.specs.Prelude.{◌≡◌, ℕ, ◌+◌, ◌*◌, ◌≤◌, Bool, true, false, cond, ◌&&◌, List, ◌++◌, length, take, drop, replicate, Some, None, Ok, Err, Option, Result, nat_lt}
 use Rattle.std.specs.List.{between}
 use Rattle.refusal.specs.declared.Refusal.{Refusal}
+use Rattle.refusal.specs.declared.Refusal.TheVariants.{OutsideGrid}
 use Rattle.store.specs.declared.slots.Format.{Format}
-use Rattle.store.specs.Grids.{Grid, format_fits}
+use Rattle.store.specs.declared.slots.Slot.{Slot}
+use Rattle.store.specs.Calls.{fits_in}
+use Rattle.store.specs.Grids.{Grid}
 
 -- where the slot (i, j) begins
 abbrev pub slot_at : Format → ℕ → ℕ → ℕ
 slot_at f i j = (i * f.columns + j) * (f.size + 1)
+
+abbrev pub start_of : Format → Slot → ℕ
+start_of f s = slot_at f s.row s.column
 
 -- the mark and the packet of the slot that begins at `at`
 abbrev pub slot_words : List ℕ → ℕ → ℕ → List ℕ
@@ -19,14 +25,14 @@ packet_of empty ws = cond (empty ws) None (Some (drop 1 ws))
 
 -- the rows of a format in this many words; none if it does not fit
 abbrev pub rows_of : ℕ → Format → ℕ
-rows_of capacity f = cond (format_fits capacity f.rows f.columns f.size) f.rows 0
+rows_of capacity f = cond (fits_in capacity f) f.rows 0
 
 -- whether a format in this many words has the slot (i, j)
 abbrev pub has_slot : ℕ → Format → ℕ → ℕ → Bool
 has_slot capacity f i j = nat_lt i (rows_of capacity f) && nat_lt j f.columns
 
-abbrev pub grid_of : (List ℕ → Bool) → Format → List ℕ → Grid
-grid_of empty f xs = record {
+abbrev pub grid_in : (List ℕ → Bool) → Format → List ℕ → Grid
+grid_in empty f xs = record {
   rows = rows_of (length xs) f;
   columns = f.columns;
   size = f.size;
@@ -37,19 +43,28 @@ grid_of empty f xs = record {
 abbrev pub slot_put : List ℕ → ℕ → List ℕ → List ℕ
 slot_put xs at ws = take at xs ++ (ws ++ drop (at + length ws) xs)
 
--- the slot (i, j) of a format is inside its grid, and begins at `at`
-pub record Place (capacity : ℕ) (f : Format) (i j at : ℕ) : Type 0 where
-  pub is_inside : has_slot capacity f i j ≡ true
-  pub at_is : at ≡ slot_at f i j
+-- the slot of a format is inside its grid, and begins at `at`
+pub record Place (capacity : ℕ) (f : Format) (s : Slot) (at : ℕ) : Type 0 where
+  pub is_inside : has_slot capacity f s.row s.column ≡ true
+  pub at_is : at ≡ start_of f s
   pub within : at + f.size + 1 ≤ capacity
 
-abbrev pub Outside : ℕ → Format → ℕ → ℕ → Type 0
-Outside capacity f i j = has_slot capacity f i j ≡ false
+-- the words of a slot of a format reach from `at` to `end`
+pub record SlotRange (capacity : ℕ) (f : Format) (s : Slot) (at end : ℕ) : Type 0 where
+  pub place : Place capacity f s at
+  pub end_is : end ≡ at + f.size + 1
 
--- the slot (i, j) of a format is inside its grid, and its words are ws
-pub record InSlot (xs : List ℕ) (f : Format) (i j : ℕ) (ws : List ℕ) : Type 0 where
-  pub is_inside : has_slot (length xs) f i j ≡ true
-  pub words_are : ws ≡ slot_words xs (slot_at f i j) f.size
+abbrev pub Outside : ℕ → Format → Slot → Type 0
+Outside capacity f s = has_slot capacity f s.row s.column ≡ false
+
+-- refused since the slot is outside the grid
+abbrev pub RefusedOutside : ℕ → Format → Slot → Refusal → Type 0
+RefusedOutside capacity f s refusal = Outside capacity f s × (refusal ≡ OutsideGrid)
+
+-- the slot of a format is inside its grid, and its words are ws
+pub record InSlot (xs : List ℕ) (f : Format) (s : Slot) (ws : List ℕ) : Type 0 where
+  pub is_inside : has_slot (length xs) f s.row s.column ≡ true
+  pub words_are : ws ≡ slot_words xs (start_of f s) f.size
   pub length_is : length ws ≡ f.size + 1
 
 -- the format that a store keeps after it was to take f
@@ -66,10 +81,3 @@ words_after_clear (Err e) blank xs = xs
 abbrev pub words_after_put : Result (Unit {0}) Refusal → List ℕ → ℕ → List ℕ → List ℕ
 words_after_put (Ok u) xs at ws = slot_put xs at ws
 words_after_put (Err e) xs at ws = xs
-
--- in memory a slot is empty when its mark is 0
-abbrev pub unmarked : List ℕ → Bool
-unmarked ws = slice_index ws 0 == 0
-
-abbrev pub memory_grid : Format → List ℕ → Grid
-memory_grid f xs = grid_of unmarked f xs

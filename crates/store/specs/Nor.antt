@@ -2,9 +2,10 @@
 use Rattle.std.specs.Prelude.{◌≡◌, refl, ℕ, zero, suc, ◌+◌, ◌-◌, Bool, true, List, ◌∷◌, length, drop, replicate, Ok, Err, Result, ◌==◌, slice_index, slice_set}
 use Rattle.std.specs.List.{list_all}
 use Rattle.refusal.specs.declared.Refusal.{Refusal}
+use Rattle.store.specs.declared.nor.NorStore.{NorStore}
 use Rattle.store.specs.declared.slots.Format.{Format}
 use Rattle.store.specs.Grids.{Grid}
-use Rattle.store.specs.Layout.{grid_of, slot_put}
+use Rattle.store.specs.Layout.{grid_in, slot_put}
 
 -- word 0; an empty run counts as shut
 abbrev pub lock_of : List ℕ → ℕ
@@ -16,7 +17,13 @@ erased xs = list_all (λ x. x == 4294967295) xs
 
 -- a slot is empty when its mark and its packet are erased
 abbrev pub nor_grid : Format → List ℕ → Grid
-nor_grid f ws = grid_of erased f (drop 1 ws)
+nor_grid f ws = grid_in erased f (drop 1 ws)
+
+abbrev pub capacity_of : NorStore → ℕ
+capacity_of s = length s.words.now - 1
+
+abbrev pub grid_of : NorStore → Grid
+grid_of s = nor_grid s.format s.words.now
 
 pub erased_blank : (n : ℕ) → erased (4294967295 ∷ replicate n 4294967295) ≡ true
 erased_blank zero = refl

@@ -2,8 +2,8 @@
 ghost use Rattle.std.specs.Prelude.{◌≡◌, ℕ, ◌+◌, ◌<◌, ◌≤◌, Bool, true, false, List, ◌∷◌, length, replicate, OnOk};
 ghost use Rattle.std.specs.Borrow.{GName};
 ghost use Rattle.refusal.specs.Numbers.{refused_with};
-ghost use Rattle.store.specs.Grids.{Emptied, format_refusal, held_answer, put_refusal, AfterPut, get_refusal, after_get};
-ghost use Rattle.store.specs.Layout.{grid_of, slot_at, slot_put, slot_words, words_after_clear, words_after_put};
+ghost use Rattle.store.specs.Calls.{EmptyGrid, refusal_of_format, answer_of_held, refusal_of_put, AfterPut, refusal_of_get, run_after_get};
+ghost use Rattle.store.specs.Layout.{grid_in, start_of, slot_put, slot_words, words_after_clear, words_after_put};
 
 use crate::slots::{Format, Slot};
 use refusal::Refusal;
@@ -60,10 +60,11 @@ impl Format {
     pub(crate) fn clear<M: Medium>(self, medium: &mut M) -> Result<(), Refusal>
         requires { M.writable medium.old }
         ensures answer { refused_with result
-            ≡ format_refusal (length (M.words medium.old)) self.rows self.columns self.size }
-        ensures words { M.words medium.new ≡ words_after_clear result M.blank (M.words medium.old) }
+            ≡ refusal_of_format (length (M.words medium.old)) self }
+        ensures words { M.words medium.new
+            ≡ words_after_clear result M.blank (M.words medium.old) }
         ensures after { OnOk result
-            (Emptied self.rows self.columns self.size (grid_of M.empty self (M.words medium.new))) }
+            (EmptyGrid self (grid_in M.empty self (M.words medium.new))) }
         ensures lent { M.loan medium.new ≡ M.loan medium.old }
     {
         if !self.fits(medium.words().len()) {
@@ -75,7 +76,7 @@ impl Format {
 
     // Whether the slot is filled.
     pub(crate) fn held<M: Medium>(self, slots: &[u32], slot: Slot) -> Result<bool, Refusal>
-        ensures answer { result ≡ held_answer (grid_of M.empty self slots.now) slot.row slot.column }
+        ensures answer { result ≡ answer_of_held (grid_in M.empty self slots.now) slot }
     {
         Ok(!M::is_empty(self.slot(slots, slot)?))
     }
@@ -89,15 +90,13 @@ impl Format {
     ) -> Result<(), Refusal>
         requires { M.writable medium.old }
         ensures answer { refused_with result
-            ≡ put_refusal (grid_of M.empty self (M.words medium.old))
-            slot.row slot.column packet.now }
+            ≡ refusal_of_put (grid_in M.empty self (M.words medium.old)) slot packet.now }
         ensures words { M.words medium.new
             ≡ words_after_put result (M.words medium.old)
-            (slot_at self slot.row slot.column) (M.mark ∷ packet.now) }
+            (start_of self slot) (M.mark ∷ packet.now) }
         ensures kept { length (M.words medium.new) ≡ length (M.words medium.old) }
-        ensures after { AfterPut result (grid_of M.empty self (M.words medium.old))
-            slot.row slot.column packet.now
-            (grid_of M.empty self (M.words medium.new)) }
+        ensures after { AfterPut result (grid_in M.empty self (M.words medium.old))
+            slot packet.now (grid_in M.empty self (M.words medium.new)) }
         ensures lent { M.loan medium.new ≡ M.loan medium.old }
     {
         let words = medium.words();
@@ -120,8 +119,10 @@ impl Format {
         slot: Slot,
         run: &mut [u32],
     ) -> Result<(), Refusal>
-        ensures answer { refused_with result ≡ get_refusal (grid_of M.empty self slots.now) slot.row slot.column run.old }
-        ensures after { run.new ≡ after_get result (grid_of M.empty self slots.now) slot.row slot.column run.old }
+        ensures answer { refused_with result
+            ≡ refusal_of_get (grid_in M.empty self slots.now) slot run.old }
+        ensures after { run.new
+            ≡ run_after_get result (grid_in M.empty self slots.now) slot run.old }
     {
         let words = self.slot(slots, slot)?;
         if run.len() != self.size {

@@ -2,8 +2,10 @@
 ghost use Rattle.std.specs.Prelude.{◌≡◌, ◌<◌, ◌∷◌, length};
 ghost use Rattle.std.proofs.Common.{refl};
 ghost use Rattle.refusal.specs.Numbers.{refused_with};
-ghost use Rattle.store.specs.Grids.{NoSlots, format_refusal, AfterFormat, put_refusal, AfterPut};
-ghost use Rattle.store.specs.Layout.{memory_grid, slot_at, unmarked, format_after, words_after_clear, words_after_put};
+ghost use Rattle.store.specs.Calls.{refusal_of_format, AfterFormat, refusal_of_put, AfterPut};
+ghost use Rattle.store.specs.Grids.{NoSlots};
+ghost use Rattle.store.specs.Layout.{start_of, format_after, words_after_clear, words_after_put};
+ghost use Rattle.store.specs.Memory.{capacity_of, grid_of, unmarked};
 
 use crate::SlotStore;
 use crate::medium::Medium;
@@ -74,7 +76,7 @@ impl<'a> MemoryStore<'a> {
     pub fn new(words: &'a mut [u32]) -> MemoryStore<'a>
         ensures words { result.words.now ≡ words.old }
         ensures lent { result.words.ghost_name ≡ words.entry.ghost_name }
-        ensures grid { NoSlots (memory_grid result.format result.words.now) }
+        ensures grid { NoSlots (grid_of result) }
     {
         MemoryStore {
             words,
@@ -84,19 +86,16 @@ impl<'a> MemoryStore<'a> {
 }
 
 impl SlotStore for MemoryStore<'_> {
-    ghost capacity = { λ s. length s.words.now };
+    ghost capacity = { capacity_of };
 
-    ghost grid = { λ s. memory_grid s.format s.words.now };
+    ghost grid = { grid_of };
 
     ghost lock = { λ s. 0 };
 
     fn format(&mut self, format: Format) -> Result<(), Refusal>
-        ensures answer { refused_with result
-            ≡ format_refusal (length self.old.words.now) format.rows format.columns format.size }
-        ensures after { AfterFormat result (memory_grid self.old.format self.old.words.now)
-            format.rows format.columns format.size
-            (memory_grid self.new.format self.new.words.now) }
-        ensures kept { length self.new.words.now ≡ length self.old.words.now }
+        ensures answer { refused_with result ≡ refusal_of_format (capacity_of self.old) format }
+        ensures after { AfterFormat result (grid_of self.old) format (grid_of self.new) }
+        ensures kept { capacity_of self.new ≡ capacity_of self.old }
         ensures words { self.new.words.now ≡ words_after_clear result 0 self.old.words.now }
         ensures format { self.new.format ≡ format_after result format self.old.format }
         ensures lent { self.new.words.ghost_name ≡ self.old.words.ghost_name }
@@ -112,16 +111,12 @@ impl SlotStore for MemoryStore<'_> {
     }
 
     fn put(&mut self, slot: Slot, words: &[u32]) -> Result<(), Refusal>
-        ensures answer { refused_with result
-            ≡ put_refusal (memory_grid self.old.format self.old.words.now)
-            slot.row slot.column words.now }
-        ensures after { AfterPut result (memory_grid self.old.format self.old.words.now)
-            slot.row slot.column words.now
-            (memory_grid self.new.format self.new.words.now) }
-        ensures kept { length self.new.words.now ≡ length self.old.words.now }
+        ensures answer { refused_with result ≡ refusal_of_put (grid_of self.old) slot words.now }
+        ensures after { AfterPut result (grid_of self.old) slot words.now (grid_of self.new) }
+        ensures kept { capacity_of self.new ≡ capacity_of self.old }
         ensures words { self.new.words.now
             ≡ words_after_put result self.old.words.now
-            (slot_at self.old.format slot.row slot.column) (1 ∷ words.now) }
+            (start_of self.old.format slot) (1 ∷ words.now) }
         ensures format { self.new.format ≡ self.old.format }
         ensures lent { self.new.words.ghost_name ≡ self.old.words.ghost_name }
     {

@@ -4,9 +4,10 @@
 ghost use Rattle.std.specs.Prelude.{◌≡◌, ◌+◌, ◌-◌, ◌<◌, ◌∷◌, bit_and, drop, length, replicate, slice_index, slice_set, OnOk};
 ghost use Rattle.std.proofs.Common.{refl};
 ghost use Rattle.refusal.specs.Numbers.{refused_with};
-ghost use Rattle.store.specs.Grids.{Emptied, NoSlots, format_refusal, AfterFormat, put_refusal, AfterPut};
-ghost use Rattle.store.specs.Layout.{slot_at, format_after};
-ghost use Rattle.store.specs.Nor.{erased, erased_blank, lock_of, nor_grid, run_after_format, run_after_put};
+ghost use Rattle.store.specs.Calls.{EmptyGrid, refusal_of_format, AfterFormat, refusal_of_put, AfterPut};
+ghost use Rattle.store.specs.Grids.{NoSlots};
+ghost use Rattle.store.specs.Layout.{start_of, format_after};
+ghost use Rattle.store.specs.Nor.{capacity_of, erased, erased_blank, grid_of, lock_of, nor_grid, run_after_format, run_after_put};
 
 use crate::SlotStore;
 use crate::medium::Medium;
@@ -129,11 +130,11 @@ fn past_lock(words: &[u32]) -> &[u32]
 #[tactic(auto, using(crate::proofs::Flash::format_run))]
 fn format_words(words: &mut [u32], format: Format) -> Result<(), Refusal>
     ensures answer { refused_with result
-        ≡ format_refusal (length words.old - 1) format.rows format.columns format.size }
+        ≡ refusal_of_format (length words.old - 1) format }
     ensures run { words.new ≡ run_after_format result words.old }
     ensures shut { lock_of words.new ≡ 0 }
     ensures after { OnOk result
-        (Emptied format.rows format.columns format.size (nor_grid format words.new)) }
+        (EmptyGrid format (nor_grid format words.new)) }
 {
     if words.is_empty() {
         return Err(Refusal::BadFormat);
@@ -146,12 +147,12 @@ fn format_words(words: &mut [u32], format: Format) -> Result<(), Refusal>
 #[tactic(auto, using(crate::proofs::Flash::put_run))]
 fn put_words(words: &mut [u32], format: Format, slot: Slot, packet: &[u32]) -> Result<(), Refusal>
     ensures answer { refused_with result
-        ≡ put_refusal (nor_grid format words.old) slot.row slot.column packet.now }
+        ≡ refusal_of_put (nor_grid format words.old) slot packet.now }
     ensures run { words.new
-        ≡ run_after_put result words.old (slot_at format slot.row slot.column) packet.now }
+        ≡ run_after_put result words.old (start_of format slot) packet.now }
     ensures shut { lock_of words.new ≡ 0 }
     ensures after { AfterPut result (nor_grid format words.old)
-        slot.row slot.column packet.now (nor_grid format words.new) }
+        slot packet.now (nor_grid format words.new) }
 {
     if words.is_empty() {
         return Err(Refusal::OutsideGrid);
@@ -172,7 +173,7 @@ impl<'a> NorStore<'a> {
     pub fn new(words: &'a mut [u32]) -> NorStore<'a>
         ensures run { result.words.now ≡ slice_set words.old 0 0 }
         ensures lent { result.words.ghost_name ≡ words.entry.ghost_name }
-        ensures grid { NoSlots (nor_grid result.format result.words.now) }
+        ensures grid { NoSlots (grid_of result) }
     {
         if !words.is_empty() {
             words[0] = 0;
@@ -185,20 +186,16 @@ impl<'a> NorStore<'a> {
 }
 
 impl SlotStore for NorStore<'_> {
-    ghost capacity = { λ s. length s.words.now - 1 };
+    ghost capacity = { capacity_of };
 
-    ghost grid = { λ s. nor_grid s.format s.words.now };
+    ghost grid = { grid_of };
 
     ghost lock = { λ s. lock_of s.words.now };
 
     fn format(&mut self, format: Format) -> Result<(), Refusal>
-        ensures answer { refused_with result
-            ≡ format_refusal (length self.old.words.now - 1)
-            format.rows format.columns format.size }
-        ensures after { AfterFormat result (nor_grid self.old.format self.old.words.now)
-            format.rows format.columns format.size
-            (nor_grid self.new.format self.new.words.now) }
-        ensures kept { length self.new.words.now - 1 ≡ length self.old.words.now - 1 }
+        ensures answer { refused_with result ≡ refusal_of_format (capacity_of self.old) format }
+        ensures after { AfterFormat result (grid_of self.old) format (grid_of self.new) }
+        ensures kept { capacity_of self.new ≡ capacity_of self.old }
         ensures shut { lock_of self.new.words.now ≡ 0 }
         ensures words { self.new.words.now ≡ run_after_format result self.old.words.now }
         ensures format { self.new.format ≡ format_after result format self.old.format }
@@ -214,17 +211,13 @@ impl SlotStore for NorStore<'_> {
     }
 
     fn put(&mut self, slot: Slot, words: &[u32]) -> Result<(), Refusal>
-        ensures answer { refused_with result
-            ≡ put_refusal (nor_grid self.old.format self.old.words.now)
-            slot.row slot.column words.now }
-        ensures after { AfterPut result (nor_grid self.old.format self.old.words.now)
-            slot.row slot.column words.now
-            (nor_grid self.new.format self.new.words.now) }
-        ensures kept { length self.new.words.now - 1 ≡ length self.old.words.now - 1 }
+        ensures answer { refused_with result ≡ refusal_of_put (grid_of self.old) slot words.now }
+        ensures after { AfterPut result (grid_of self.old) slot words.now (grid_of self.new) }
+        ensures kept { capacity_of self.new ≡ capacity_of self.old }
         ensures shut { lock_of self.new.words.now ≡ 0 }
         ensures words { self.new.words.now
             ≡ run_after_put result self.old.words.now
-            (slot_at self.old.format slot.row slot.column) words.now }
+            (start_of self.old.format slot) words.now }
         ensures format { self.new.format ≡ self.old.format }
         ensures lent { self.new.words.ghost_name ≡ self.old.words.ghost_name }
     {

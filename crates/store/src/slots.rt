@@ -1,8 +1,7 @@
 // How slots lie in a run of words: one after another, row by row, each a mark and then its packet.
-ghost use Rattle.std.specs.Prelude.{◌≡◌, ◌+◌, ◌*◌, ◌<◌, ◌≤◌, true, MatchOption, MatchResult, length};
-ghost use Rattle.refusal.specs.declared.Refusal.TheVariants.{OutsideGrid};
-ghost use Rattle.store.specs.Grids.{format_fits};
-ghost use Rattle.store.specs.Layout.{InSlot, Outside, Place, slot_at};
+ghost use Rattle.std.specs.Prelude.{◌≡◌, ◌+◌, ◌*◌, ◌<◌, ◌≤◌, true, IfErr, IfOk, MatchOption, length};
+ghost use Rattle.store.specs.Calls.{fits_in};
+ghost use Rattle.store.specs.Layout.{InSlot, Outside, Place, RefusedOutside, SlotRange, start_of};
 
 use refusal::Refusal;
 use std::ops::Range;
@@ -61,7 +60,7 @@ impl Format {
 
     // Whether a store of this capacity takes the format.
     pub(crate) fn fits(self, capacity: usize) -> bool
-        ensures { result ≡ format_fits capacity self.rows self.columns self.size }
+        ensures { result ≡ fits_in capacity self }
     {
         self.rows > 0
             && self.rows <= 1023
@@ -74,7 +73,7 @@ impl Format {
 
     // Where a slot begins; none outside the grid.
     fn place(self, capacity: usize, slot: Slot) -> Option<usize>
-        ensures { MatchOption result (Outside capacity self slot.row slot.column) (Place capacity self slot.row slot.column) }
+        ensures { MatchOption result (Outside capacity self slot) (Place capacity self slot) }
     {
         if !self.fits(capacity) || slot.row >= self.rows || slot.column >= self.columns {
             return None;
@@ -84,14 +83,16 @@ impl Format {
 
     // The words of a slot, its mark and its packet.
     pub(crate) fn slot<'w>(self, slots: &'w [u32], slot: Slot) -> Result<&'w [u32], Refusal>
-        ensures { MatchResult result (λ words. InSlot slots.now self slot.row slot.column words.now) (λ refusal. Outside (length slots.now) self slot.row slot.column × (refusal ≡ OutsideGrid)) }
+        ensures words { IfOk result (λ words. InSlot slots.now self slot words.now) }
+        ensures refused { IfErr result (RefusedOutside (length slots.now) self slot) }
     {
         Ok(&slots[self.range(slots.len(), slot)?])
     }
 
     // Where the words of a slot lie, its mark and its packet.
     pub(crate) fn range(self, capacity: usize, slot: Slot) -> Result<Range<usize>, Refusal>
-        ensures { MatchResult result (λ range. Place capacity self slot.row slot.column range.start × (range.end ≡ range.start + self.size + 1)) (λ refusal. Outside capacity self slot.row slot.column × (refusal ≡ OutsideGrid)) }
+        ensures range { IfOk result (λ range. SlotRange capacity self slot range.start range.end) }
+        ensures refused { IfErr result (RefusedOutside capacity self slot) }
     {
         let at = self.place(capacity, slot).ok_or(Refusal::OutsideGrid)?;
         Ok(at..at + self.size + 1)
@@ -99,10 +100,10 @@ impl Format {
 
     #[tactic(auto, using(crate::proofs::Places::slot_within))]
     fn slot_at(self, capacity: usize, slot: Slot) -> usize
-        requires fits { format_fits capacity self.rows self.columns self.size ≡ true }
+        requires fits { fits_in capacity self ≡ true }
         requires row { slot.row < self.rows }
         requires column { slot.column < self.columns }
-        ensures is { result ≡ slot_at self slot.row slot.column }
+        ensures start { result ≡ start_of self slot }
         ensures within { result + self.size + 1 ≤ capacity }
     {
         (slot.row * self.columns + slot.column) * (self.size + 1)

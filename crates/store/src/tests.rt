@@ -1,5 +1,5 @@
 ghost use Rattle.std.specs.Prelude.{◌≡◌, ◌-◌, ◌∷◌, length, replicate, OnOk};
-ghost use Rattle.store.specs.Layout.{slot_at, slot_put};
+ghost use Rattle.store.specs.Layout.{slot_put, start_of};
 ghost use Rattle.store.specs.Nor.{lock_of, run_after_put};
 
 use crate::SlotStore;
@@ -96,7 +96,7 @@ fn left_by_memory(
 ) -> Result<(), Refusal>
     ensures { OnOk result (words.new
         ≡ slot_put (replicate (length words.old) 0)
-        (slot_at format slot.row slot.column) (1 ∷ packet.now)) }
+        (start_of format slot) (1 ∷ packet.now)) }
 {
     let mut store = MemoryStore::new(words);
     store.format(format)?;
@@ -113,7 +113,7 @@ fn left_by_flash(
     ensures shut { lock_of words.new ≡ 0 }
     ensures run { OnOk result (words.new
         ≡ run_after_put result (0 ∷ replicate (length words.old - 1) 4294967295)
-        (slot_at format slot.row slot.column) packet.now) }
+        (start_of format slot) packet.now) }
 {
     let mut store = NorStore::new(words);
     store.format(format)?;

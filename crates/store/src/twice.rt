@@ -1,6 +1,5 @@
 // A store transposed twice means what the store below means.
-ghost use Rattle.std.specs.Prelude.{◌≡◌};
-ghost use Rattle.store.specs.Grids.{SameGrid};
+ghost use Rattle.store.specs.Stores.{SameMeaning};
 
 use crate::SlotStore;
 use crate::transposed::Transposed;
@@ -10,8 +9,7 @@ pub trait MeansBelow: SlotStore {
     type Below: SlotStore;
 
     fn below(&self) -> &Self::Below
-        ensures capacity { Self.SlotStore.capacity self.now ≡ Self.Below.SlotStore.capacity result.now }
-        ensures grid { SameGrid (Self.Below.SlotStore.grid result.now) (Self.SlotStore.grid self.now) };
+        ensures { SameMeaning Self.Below.SlotStore result.now Self.SlotStore self.now };
 }
 
 impl<S: SlotStore> MeansBelow for Transposed<Transposed<S>> {
