@@ -80,7 +80,7 @@ impl<'a> MemoryStore<'a> {
     {
         MemoryStore {
             words,
-            format: Format::none(),
+            format: Format::default(),
         }
     }
 }

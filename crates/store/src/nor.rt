@@ -180,7 +180,7 @@ impl<'a> NorStore<'a> {
         }
         NorStore {
             words,
-            format: Format::none(),
+            format: Format::default(),
         }
     }
 }

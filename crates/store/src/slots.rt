@@ -7,7 +7,7 @@ use refusal::Refusal;
 use std::ops::Range;
 
 // A slot of a grid, by its row and its column.
-#[derive(Clone, Copy, PartialEq, Eq, Debug)]
+#[derive(Clone, Copy, PartialEq, Eq, Debug, Default)]
 pub struct Slot {
     pub row: usize,
     pub column: usize,
@@ -26,8 +26,8 @@ impl Slot {
     }
 }
 
-// The three numbers of a format; all are 0 in a new store.
-#[derive(Clone, Copy, PartialEq, Eq, Debug)]
+// The three numbers of a format; the default has no rows and no columns.
+#[derive(Clone, Copy, PartialEq, Eq, Debug, Default)]
 pub struct Format {
     pub rows: usize,
     pub columns: usize,
@@ -35,16 +35,6 @@ pub struct Format {
 }
 
 impl Format {
-    pub(crate) fn none() -> Format
-        ensures { (result.rows ≡ 0) × (result.columns ≡ 0) × (result.size ≡ 0) }
-    {
-        Format {
-            rows: 0,
-            columns: 0,
-            size: 0,
-        }
-    }
-
     // The format with its rows and its columns exchanged.
     pub(crate) fn transposed(self) -> Format
         ensures rows { result.rows ≡ self.columns }
