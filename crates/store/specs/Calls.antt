@@ -1,9 +1,13 @@
 -- What the calls of a slot store answer and do, by a format and a slot.
-use Rattle.std.specs.Prelude.{◌≡◌, ℕ, Bool, List, Ok, Err, Option, Result}
+use Rattle.std.specs.Prelude.{◌≡◌, ℕ, ◌+◌, ◌*◌, Bool, List, Ok, Err, Option, Result}
 use Rattle.refusal.specs.declared.Refusal.{Refusal}
 use Rattle.store.specs.declared.slots.Format.{Format}
 use Rattle.store.specs.declared.slots.Slot.{Slot}
 use Rattle.store.specs.Grids.{Grid, format_fits, format_refusal, Emptied, held_answer, put_refusal, Filled, get_refusal, after_get}
+
+-- how many words the slots of a format take, each a mark and a packet
+abbrev pub words_of : Format → ℕ
+words_of f = f.rows * f.columns * (f.size + 1)
 
 -- whether so many words are enough for a format that stores take
 abbrev pub fits_in : ℕ → Format → Bool

@@ -1,8 +1,9 @@
 // A store in memory, over a lent run of words. A slot's mark is 1 when it is filled, 0 when it is empty.
-ghost use Rattle.std.specs.Prelude.{◌≡◌, ◌<◌, ◌∷◌, length};
+ghost use Rattle.std.specs.Prelude.{◌≡◌, ◌<◌, ◌∷◌, IsTrue, length};
+ghost use Rattle.std.specs.Option.{SomeIff};
 ghost use Rattle.std.proofs.Common.{refl};
 ghost use Rattle.refusal.specs.Numbers.{refused_with};
-ghost use Rattle.store.specs.Calls.{refusal_of_format, AfterFormat, refusal_of_put, AfterPut};
+ghost use Rattle.store.specs.Calls.{fits_in, words_of, refusal_of_format, AfterFormat, refusal_of_put, AfterPut};
 ghost use Rattle.store.specs.Grids.{NoSlots};
 ghost use Rattle.store.specs.Layout.{start_of, format_after, words_after_clear, words_after_put};
 ghost use Rattle.store.specs.Memory.{capacity_of, grid_of, unmarked};
@@ -72,6 +73,20 @@ pub struct MemoryStore<'a> {
 }
 
 impl<'a> MemoryStore<'a> {
+    /// How many words of memory a store needs for a format: for each slot a mark and its packet.
+    /// `None` where no store takes the format, since one of its numbers is out of its range.
+    ///
+    /// ```
+    /// // 2 rows of 3 slots, each a mark and a packet of 4 words
+    /// let format = Format { rows: 2, columns: 3, size: 4 };
+    /// assert_eq!(rt; MemoryStore::words_for(format), Some(30));
+    /// ```
+    pub fn words_for(format: Format) -> Option<usize>
+        ensures { SomeIff result (IsTrue (fits_in (words_of format) format)) (words_of format) }
+    {
+        format.words()
+    }
+
     // A store with no rows and no columns.
     pub fn new(words: &'a mut [u32]) -> MemoryStore<'a>
         ensures words { result.words.now ≡ words.old }

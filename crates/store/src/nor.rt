@@ -1,10 +1,11 @@
 // A store in NOR flash, over a lent run of words. Word 0 is the lock: 0 shut, 1 open.
 // Slots follow it. A slot's mark is all ones when it is empty, 0 when it is filled.
 // Programming a word leaves old AND new, so only an erased slot can take a packet.
-ghost use Rattle.std.specs.Prelude.{◌≡◌, ◌+◌, ◌-◌, ◌<◌, ◌∷◌, bit_and, drop, length, replicate, slice_index, slice_set, OnOk};
+ghost use Rattle.std.specs.Prelude.{◌≡◌, ◌+◌, ◌-◌, ◌<◌, ◌∷◌, bit_and, drop, length, replicate, slice_index, slice_set, IsTrue, OnOk};
+ghost use Rattle.std.specs.Option.{SomeIff};
 ghost use Rattle.std.proofs.Common.{refl};
 ghost use Rattle.refusal.specs.Numbers.{refused_with};
-ghost use Rattle.store.specs.Calls.{EmptyGrid, refusal_of_format, AfterFormat, refusal_of_put, AfterPut};
+ghost use Rattle.store.specs.Calls.{fits_in, words_of, EmptyGrid, refusal_of_format, AfterFormat, refusal_of_put, AfterPut};
 ghost use Rattle.store.specs.Grids.{NoSlots};
 ghost use Rattle.store.specs.Layout.{start_of, format_after};
 ghost use Rattle.store.specs.Nor.{capacity_of, erased, erased_blank, grid_of, lock_of, nor_grid, run_after_format, run_after_put};
@@ -169,6 +170,20 @@ pub struct NorStore<'a> {
 }
 
 impl<'a> NorStore<'a> {
+    /// How many words of flash a store needs for a format: the lock, and for each slot a mark and its packet.
+    /// `None` where no store takes the format, since one of its numbers is out of its range.
+    ///
+    /// ```
+    /// // the lock, and 2 rows of 3 slots, each a mark and a packet of 4 words
+    /// let format = Format { rows: 2, columns: 3, size: 4 };
+    /// assert_eq!(rt; NorStore::words_for(format), Some(31));
+    /// ```
+    pub fn words_for(format: Format) -> Option<usize>
+        ensures { SomeIff result (IsTrue (fits_in (words_of format) format)) (words_of format + 1) }
+    {
+        Some(format.words()? + 1)
+    }
+
     // A store with no rows and no columns, its lock shut.
     pub fn new(words: &'a mut [u32]) -> NorStore<'a>
         ensures run { result.words.now ≡ slice_set words.old 0 0 }

@@ -1,6 +1,7 @@
 // How slots lie in a run of words: one after another, row by row, each a mark and then its packet.
-ghost use Rattle.std.specs.Prelude.{◌≡◌, ◌+◌, ◌*◌, ◌<◌, ◌≤◌, true, IfErr, IfOk, MatchOption, length};
-ghost use Rattle.store.specs.Calls.{fits_in};
+ghost use Rattle.std.specs.Prelude.{◌≡◌, ◌+◌, ◌*◌, ◌<◌, ◌≤◌, true, IfErr, IfOk, IsTrue, MatchOption, length};
+ghost use Rattle.std.specs.Option.{SomeIff};
+ghost use Rattle.store.specs.Calls.{fits_in, words_of};
 ghost use Rattle.store.specs.Layout.{InSlot, Outside, Place, RefusedOutside, SlotRange, start_of};
 
 use refusal::Refusal;
@@ -48,17 +49,30 @@ impl Format {
         }
     }
 
+    // How many words the slots take; none where no store takes the format.
+    pub(crate) fn words(self) -> Option<usize>
+        ensures { SomeIff result (IsTrue (fits_in (words_of self) self)) (words_of self) }
+    {
+        if self.rows == 0
+            || self.rows > 1023
+            || self.columns == 0
+            || self.columns > 1023
+            || self.size == 0
+            || self.size > 256
+        {
+            return None;
+        }
+        Some(self.rows * self.columns * (self.size + 1))
+    }
+
     // Whether a store of this capacity takes the format.
     pub(crate) fn fits(self, capacity: usize) -> bool
         ensures { result ≡ fits_in capacity self }
     {
-        self.rows > 0
-            && self.rows <= 1023
-            && self.columns > 0
-            && self.columns <= 1023
-            && self.size > 0
-            && self.size <= 256
-            && self.rows * self.columns * (self.size + 1) <= capacity
+        match self.words() {
+            Some(words) => words <= capacity,
+            None => false,
+        }
     }
 
     // Where a slot begins; none outside the grid.

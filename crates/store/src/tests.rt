@@ -56,6 +56,14 @@ fn flash_does_too_with_a_word_for_the_lock(rt: HostRuntime) {
 }
 
 #[test]
+fn stores_say_how_many_words_they_need(rt: HostRuntime) {
+    assert_eq!(rt; MemoryStore::words_for(format(2, 3, 4)), Some(30));
+    assert_eq!(rt; NorStore::words_for(format(2, 3, 4)), Some(31));
+    assert_eq!(rt; MemoryStore::words_for(format(1024, 1, 1)), None);
+    assert_eq!(rt; NorStore::words_for(format(1, 0, 1)), None);
+}
+
+#[test]
 fn fourteen_words_do_not(rt: HostRuntime) {
     let mut words = [0; 14];
     let mut store = Transposed(MemoryStore::new(&mut words));
