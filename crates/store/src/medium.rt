@@ -1,4 +1,4 @@
-// What a store does with its slots, over any medium.
+//! What a store does with its slots, over any medium.
 ghost use Rattle.std.specs.Prelude.{◌≡◌, ℕ, ◌+◌, ◌<◌, ◌≤◌, Bool, true, false, List, ◌∷◌, length, replicate, OnOk};
 ghost use Rattle.std.specs.Borrow.{GName};
 ghost use Rattle.refusal.specs.Numbers.{refused_with};

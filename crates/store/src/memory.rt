@@ -1,4 +1,4 @@
-// A store in memory, over a lent run of words. A slot's mark is 1 when it is filled, 0 when it is empty.
+//! A store in memory. A slot's mark is 1 when it is filled, 0 when it is empty.
 ghost use Rattle.std.specs.Prelude.{◌≡◌, ◌<◌, ◌∷◌, IsTrue, length};
 ghost use Rattle.std.specs.Option.{SomeIff};
 ghost use Rattle.std.proofs.Common.{refl};
@@ -66,6 +66,7 @@ impl Medium for Memory<'_> {
     ghost empty_when_blank = { λ n. refl };
 }
 
+/// Memory with a grid of slots.
 #[derive(Drop)]
 pub struct MemoryStore<'a> {
     words: &'a mut [u32],
@@ -87,7 +88,7 @@ impl<'a> MemoryStore<'a> {
         format.words()
     }
 
-    // A store with no rows and no columns.
+    /// A store with no rows and no columns. It leaves the words as they are until it gets a format.
     pub fn new(words: &'a mut [u32]) -> MemoryStore<'a>
         ensures words { result.words.now ≡ words.old }
         ensures lent { result.words.ghost_name ≡ words.entry.ghost_name }

@@ -1,6 +1,6 @@
-// A store in NOR flash, over a lent run of words. Word 0 is the lock: 0 shut, 1 open.
-// Slots follow it. A slot's mark is all ones when it is empty, 0 when it is filled.
-// Programming a word leaves old AND new, so only an erased slot can take a packet.
+//! A store in NOR flash. Word 0 is the lock: 0 shut, 1 open.
+//! Slots follow it. A slot's mark is all ones when it is empty, 0 when it is filled.
+//! Programming a word leaves old AND new, so only an erased slot can take a packet.
 ghost use Rattle.std.specs.Prelude.{◌≡◌, ◌+◌, ◌-◌, ◌<◌, ◌∷◌, bit_and, drop, length, replicate, slice_index, slice_set, IsTrue, OnOk};
 ghost use Rattle.std.specs.Option.{SomeIff};
 ghost use Rattle.std.proofs.Common.{refl};
@@ -162,7 +162,7 @@ fn put_words(words: &mut [u32], format: Format, slot: Slot, packet: &[u32]) -> R
     format.put(&mut guard, slot, packet)
 }
 
-// Flash with a grid of slots. Reading leaves the lock alone; what writes shuts it again.
+/// Flash with a grid of slots. Reading leaves the lock alone; what writes shuts it again.
 #[derive(Drop)]
 pub struct NorStore<'a> {
     words: &'a mut [u32],
@@ -170,7 +170,8 @@ pub struct NorStore<'a> {
 }
 
 impl<'a> NorStore<'a> {
-    /// How many words of flash a store needs for a format: the lock, and for each slot a mark and its packet.
+    /// How many words of flash a store needs for a format: the lock, and for each slot a mark and
+    /// its packet.
     /// `None` where no store takes the format, since one of its numbers is out of its range.
     ///
     /// ```
@@ -184,7 +185,8 @@ impl<'a> NorStore<'a> {
         Some(format.words()? + 1)
     }
 
-    // A store with no rows and no columns, its lock shut.
+    /// A store with no rows and no columns. It shuts the lock, and leaves the other words as they
+    /// are until it gets a format.
     pub fn new(words: &'a mut [u32]) -> NorStore<'a>
         ensures run { result.words.now ≡ slice_set words.old 0 0 }
         ensures lent { result.words.ghost_name ≡ words.entry.ghost_name }

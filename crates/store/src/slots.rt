@@ -1,4 +1,4 @@
-// How slots lie in a run of words: one after another, row by row, each a mark and then its packet.
+//! How slots lie in a run of words: one after another, row by row, each a mark and then its packet.
 ghost use Rattle.std.specs.Prelude.{◌≡◌, ◌+◌, ◌*◌, ◌<◌, ◌≤◌, true, IfErr, IfOk, IsTrue, MatchOption, length};
 ghost use Rattle.std.specs.Option.{SomeIff};
 ghost use Rattle.store.specs.Calls.{fits_in, words_of};
@@ -7,7 +7,7 @@ ghost use Rattle.store.specs.Layout.{InSlot, Outside, Place, RefusedOutside, Slo
 use refusal::Refusal;
 use std::ops::Range;
 
-// A slot of a grid, by its row and its column.
+/// A slot of a grid, by its row and its column, both counted from 0.
 #[derive(Clone, Copy, PartialEq, Eq, Debug, Default)]
 pub struct Slot {
     pub row: usize,
@@ -27,11 +27,14 @@ impl Slot {
     }
 }
 
-// The three numbers of a format; the default has no rows and no columns.
+/// The three numbers of a grid. No store takes the default, whose numbers are 0.
 #[derive(Clone, Copy, PartialEq, Eq, Debug, Default)]
 pub struct Format {
+    /// From 1 to 1023.
     pub rows: usize,
+    /// From 1 to 1023.
     pub columns: usize,
+    /// How many words a packet has, from 1 to 256.
     pub size: usize,
 }
 

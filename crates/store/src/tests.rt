@@ -1,3 +1,4 @@
+//! What the stores keep and refuse, and what they leave in their words.
 ghost use Rattle.std.specs.Prelude.{◌≡◌, ◌-◌, ◌∷◌, length, replicate, OnOk};
 ghost use Rattle.store.specs.Layout.{slot_put, start_of};
 ghost use Rattle.store.specs.Nor.{lock_of, run_after_put};

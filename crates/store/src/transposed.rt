@@ -1,10 +1,12 @@
-// A store that exchanges the rows and the columns of the store below it.
+//! A store that exchanges the rows and the columns of the store below it.
 ghost use Rattle.store.specs.Grids.{transposed};
 
 use crate::SlotStore;
 use crate::slots::{Format, Slot};
 use refusal::Refusal;
 
+/// The store below, seen with its rows and its columns exchanged: the slot (2, 3) is the slot
+/// (3, 2) there.
 #[derive(Drop)]
 pub struct Transposed<S>(pub S);
 

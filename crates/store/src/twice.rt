@@ -1,13 +1,14 @@
-// A store transposed twice means what the store below means.
+//! A store transposed twice means what the store below means.
 ghost use Rattle.store.specs.Stores.{SameMeaning};
 
 use crate::SlotStore;
 use crate::transposed::Transposed;
 
-// A store with another below it that means the same: the same capacity, and the same grid.
+/// A store with another below it that means the same.
 pub trait MeansBelow: SlotStore {
     type Below: SlotStore;
 
+    /// The store below.
     fn below(&self) -> &Self::Below
         ensures { SameMeaning Self.Below.SlotStore result.now Self.SlotStore self.now };
 }
