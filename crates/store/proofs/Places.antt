@@ -10,7 +10,7 @@ use Rattle.store.specs.declared.slots.Format.{Format}
 use Rattle.store.specs.declared.slots.Slot.{Slot}
 use Rattle.store.specs.Calls.{fits_in, EmptyGrid}
 use Rattle.store.specs.Grids.{format_fits, Filled}
-use Rattle.store.specs.Layout.{slot_at, slot_put, slot_words, packet_of, rows_of, has_slot, grid_in, Place}
+use Rattle.store.specs.Layout.{slot_at, slot_put, slot_words, content_of, rows_of, has_slot, grid_in, StartsAt}
 
 -- the slots of a format that fits take no more than the capacity
 fits_product : (k r c n : ℕ) → format_fits k r c n ≡ true → r * c * (n + 1) ≤ k
@@ -47,7 +47,7 @@ words_there xs new at n b le e way = elim way [
   | inr h ↦ ap (take (b + n + 1 - b)) (drop-put_mid at (n + 1) xs new b (omega arith) (omega arith) e)
 ]
 
-replaced : (empty : List ℕ → Bool) (f : Format) (s : Slot) (at k mark : ℕ) (xs new ws : List ℕ) → Place (length xs) f s at
+replaced : (empty : List ℕ → Bool) (f : Format) (s : Slot) (at k mark : ℕ) (xs new ws : List ℕ) → StartsAt (length xs) f s at
     → k ≡ f.size + 1 → length ws ≡ f.size → new ≡ mark ∷ ws → empty (mark ∷ ws) ≡ false
     → Filled (grid_in empty f xs) s.row s.column ws (grid_in empty f (put_mid at k xs new))
 replaced empty f s at k mark xs new ws p ends len is e =
@@ -63,22 +63,22 @@ replaced empty f s at k mark xs new ws p ends len is e =
       columns_same = refl;
       size_same = refl;
       here = cond-true _ _ None (ap (λ m. has_slot m f s.row s.column) same ∙ p.is_inside)
-          ∙ ap (λ b. packet_of empty (slot_words (put_mid at (n + 1) xs new) b n)) (sym at_is)
-          ∙ ap (packet_of empty) (between-put_mid at (n + 1) xs new (at + n + 1) (omega arith) (omega arith) ∙ is) ∙ cond-false _ None _ e;
-      others = λ a b ne. ap (λ m. cond (has_slot m f a b) (packet_of empty (slot_words (put_mid at (n + 1) xs new) (slot_at f a b) n)) None) same
+          ∙ ap (λ b. content_of empty (slot_words (put_mid at (n + 1) xs new) b n)) (sym at_is)
+          ∙ ap (content_of empty) (between-put_mid at (n + 1) xs new (at + n + 1) (omega arith) (omega arith) ∙ is) ∙ cond-false _ None _ e;
+      others = λ a b ne. ap (λ m. cond (has_slot m f a b) (content_of empty (slot_words (put_mid at (n + 1) xs new) (slot_at f a b) n)) None) same
           ∙ elim (cases_Bool (has_slot (length xs) f a b)) [
             | inl t ↦
                 let lb : b < c = ltb-true b c (and_parts _ _ t).1 in
                 let lj : s.column < c = ltb-true s.column c (and_parts _ _ p.is_inside).1 in
                 let way = slots_apart (a * c + b) (s.row * c + s.column) (n + 1) (places_differ a b s.row s.column c lb lj ne) in
-                ap (λ l. cond (has_slot (length xs) f a b) (packet_of empty l) None)
+                ap (λ l. cond (has_slot (length xs) f a b) (content_of empty l) None)
                 (words_there xs new at n (slot_at f a b) h l (elim way [ inl w ↦ inl (omega arith) | inr w ↦ inr (omega arith) ]))
             | inr o ↦ cond-false _ _ _ o ∙ sym (cond-false _ _ _ o)
           ];
     })
 
 -- the grid after the words of a slot were overwritten by the mark of a filled one and its packet
-pub filled : (empty : List ℕ → Bool) (f : Format) (s : Slot) (at mark : ℕ) (xs ws : List ℕ) → Place (length xs) f s at → length ws ≡ f.size → empty (mark ∷ ws) ≡ false
+pub filled : (empty : List ℕ → Bool) (f : Format) (s : Slot) (at mark : ℕ) (xs ws : List ℕ) → StartsAt (length xs) f s at → length ws ≡ f.size → empty (mark ∷ ws) ≡ false
     → Filled (grid_in empty f xs) s.row s.column ws (grid_in empty f (slot_put xs at (mark ∷ ws)))
 filled empty f s at mark xs ws p len e =
     subst (λ l. Filled (grid_in empty f xs) s.row s.column ws (grid_in empty f (take at xs ++ (mark ∷ ws ++ l)))) (drop-drop (suc (length ws)) at xs)

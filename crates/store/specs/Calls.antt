@@ -6,8 +6,8 @@ use Rattle.store.specs.declared.slots.Slot.{Slot}
 use Rattle.store.specs.Grids.{Grid, format_fits, format_refusal, Emptied, held_answer, put_refusal, Filled, get_refusal, after_get}
 
 -- how many words the slots of a format take, each a mark and a packet
-abbrev pub words_of : Format → ℕ
-words_of f = f.rows * f.columns * (f.size + 1)
+abbrev pub word_count : Format → ℕ
+word_count f = f.rows * f.columns * (f.size + 1)
 
 -- whether so many words are enough for a format that stores take
 abbrev pub fits_in : ℕ → Format → Bool

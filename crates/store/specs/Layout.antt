@@ -20,8 +20,8 @@ abbrev pub slot_words : List ℕ → ℕ → ℕ → List ℕ
 slot_words xs at n = between at (at + n + 1) xs
 
 -- what a slot holds, by a test that its words are those of an empty one
-abbrev pub packet_of : (List ℕ → Bool) → List ℕ → Option (List ℕ)
-packet_of empty ws = cond (empty ws) None (Some (drop 1 ws))
+abbrev pub content_of : (List ℕ → Bool) → List ℕ → Option (List ℕ)
+content_of empty ws = cond (empty ws) None (Some (drop 1 ws))
 
 -- the rows of a format in this many words; none if it does not fit
 abbrev pub rows_of : ℕ → Format → ℕ
@@ -36,7 +36,7 @@ grid_in empty f xs = record {
   rows = rows_of (length xs) f;
   columns = f.columns;
   size = f.size;
-  slots = λ i j. cond (has_slot (length xs) f i j) (packet_of empty (slot_words xs (slot_at f i j) f.size)) None;
+  slots = λ i j. cond (has_slot (length xs) f i j) (content_of empty (slot_words xs (slot_at f i j) f.size)) None;
 }
 
 -- the words after the slot that begins at `at` was overwritten
@@ -44,22 +44,19 @@ abbrev pub slot_put : List ℕ → ℕ → List ℕ → List ℕ
 slot_put xs at ws = take at xs ++ (ws ++ drop (at + length ws) xs)
 
 -- the slot of a format is inside its grid, and begins at `at`
-pub record Place (capacity : ℕ) (f : Format) (s : Slot) (at : ℕ) : Type 0 where
+pub record StartsAt (capacity : ℕ) (f : Format) (s : Slot) (at : ℕ) : Type 0 where
   pub is_inside : has_slot capacity f s.row s.column ≡ true
   pub at_is : at ≡ start_of f s
   pub within : at + f.size + 1 ≤ capacity
 
 -- the words of a slot of a format reach from `at` to `end`
 pub record SlotRange (capacity : ℕ) (f : Format) (s : Slot) (at end : ℕ) : Type 0 where
-  pub place : Place capacity f s at
+  pub start : StartsAt capacity f s at
   pub end_is : end ≡ at + f.size + 1
 
-abbrev pub Outside : ℕ → Format → Slot → Type 0
-Outside capacity f s = has_slot capacity f s.row s.column ≡ false
-
--- refused since the slot is outside the grid
+-- the slot of a format is outside its grid, and so refused
 abbrev pub RefusedOutside : ℕ → Format → Slot → Refusal → Type 0
-RefusedOutside capacity f s refusal = Outside capacity f s × (refusal ≡ OutsideGrid)
+RefusedOutside capacity f s refusal = (has_slot capacity f s.row s.column ≡ false) × (refusal ≡ OutsideGrid)
 
 -- the slot of a format is inside its grid, and its words are ws
 pub record InSlot (xs : List ℕ) (f : Format) (s : Slot) (ws : List ℕ) : Type 0 where

@@ -3,7 +3,7 @@ ghost use Rattle.std.specs.Prelude.{◌≡◌, ◌<◌, ◌∷◌, IsTrue, lengt
 ghost use Rattle.std.specs.Option.{SomeIff};
 ghost use Rattle.std.proofs.Common.{refl};
 ghost use Rattle.refusal.specs.Numbers.{refused_with};
-ghost use Rattle.store.specs.Calls.{fits_in, words_of, refusal_of_format, AfterFormat, refusal_of_put, AfterPut};
+ghost use Rattle.store.specs.Calls.{fits_in, word_count, refusal_of_format, AfterFormat, refusal_of_put, AfterPut};
 ghost use Rattle.store.specs.Grids.{NoSlots};
 ghost use Rattle.store.specs.Layout.{start_of, format_after, words_after_clear, words_after_put};
 ghost use Rattle.store.specs.Memory.{capacity_of, grid_of, unmarked};
@@ -83,9 +83,9 @@ impl<'a> MemoryStore<'a> {
     /// assert_eq!(rt; MemoryStore::words_for(format), Some(30));
     /// ```
     pub fn words_for(format: Format) -> Option<usize>
-        ensures { SomeIff result (IsTrue (fits_in (words_of format) format)) (words_of format) }
+        ensures { SomeIff result (IsTrue (fits_in (word_count format) format)) (word_count format) }
     {
-        format.words()
+        format.word_count()
     }
 
     /// A store with no rows and no columns. It leaves the words as they are until it gets a format.

@@ -5,7 +5,7 @@ ghost use Rattle.std.specs.Prelude.{◌≡◌, ◌+◌, ◌-◌, ◌<◌, ◌∷
 ghost use Rattle.std.specs.Option.{SomeIff};
 ghost use Rattle.std.proofs.Common.{refl};
 ghost use Rattle.refusal.specs.Numbers.{refused_with};
-ghost use Rattle.store.specs.Calls.{fits_in, words_of, EmptyGrid, refusal_of_format, AfterFormat, refusal_of_put, AfterPut};
+ghost use Rattle.store.specs.Calls.{fits_in, word_count, EmptyGrid, refusal_of_format, AfterFormat, refusal_of_put, AfterPut};
 ghost use Rattle.store.specs.Grids.{NoSlots};
 ghost use Rattle.store.specs.Layout.{start_of, format_after};
 ghost use Rattle.store.specs.Nor.{capacity_of, erased, erased_blank, grid_of, lock_of, nor_grid, run_after_format, run_after_put};
@@ -180,9 +180,9 @@ impl<'a> NorStore<'a> {
     /// assert_eq!(rt; NorStore::words_for(format), Some(31));
     /// ```
     pub fn words_for(format: Format) -> Option<usize>
-        ensures { SomeIff result (IsTrue (fits_in (words_of format) format)) (words_of format + 1) }
+        ensures { SomeIff result (IsTrue (fits_in (word_count format) format)) (word_count format + 1) }
     {
-        Some(format.words()? + 1)
+        Some(format.word_count()? + 1)
     }
 
     /// A store with no rows and no columns. It shuts the lock, and leaves the other words as they

@@ -1,8 +1,8 @@
 //! How slots lie in a run of words: one after another, row by row, each a mark and then its packet.
-ghost use Rattle.std.specs.Prelude.{◌≡◌, ◌+◌, ◌*◌, ◌<◌, ◌≤◌, true, IfErr, IfOk, IsTrue, MatchOption, length};
+ghost use Rattle.std.specs.Prelude.{◌≡◌, ◌+◌, ◌*◌, ◌<◌, IfErr, IfOk, IsTrue, length};
 ghost use Rattle.std.specs.Option.{SomeIff};
-ghost use Rattle.store.specs.Calls.{fits_in, words_of};
-ghost use Rattle.store.specs.Layout.{InSlot, Outside, Place, RefusedOutside, SlotRange, start_of};
+ghost use Rattle.store.specs.Calls.{fits_in, word_count};
+ghost use Rattle.store.specs.Layout.{InSlot, RefusedOutside, SlotRange};
 
 use refusal::Refusal;
 use std::ops::Range;
@@ -53,8 +53,8 @@ impl Format {
     }
 
     // How many words the slots take; none where no store takes the format.
-    pub(crate) fn words(self) -> Option<usize>
-        ensures { SomeIff result (IsTrue (fits_in (words_of self) self)) (words_of self) }
+    pub(crate) fn word_count(self) -> Option<usize>
+        ensures { SomeIff result (IsTrue (fits_in (word_count self) self)) (word_count self) }
     {
         if self.rows == 0
             || self.rows > 1023
@@ -72,20 +72,10 @@ impl Format {
     pub(crate) fn fits(self, capacity: usize) -> bool
         ensures { result ≡ fits_in capacity self }
     {
-        match self.words() {
+        match self.word_count() {
             Some(words) => words <= capacity,
             None => false,
         }
-    }
-
-    // Where a slot begins; none outside the grid.
-    fn place(self, capacity: usize, slot: Slot) -> Option<usize>
-        ensures { MatchOption result (Outside capacity self slot) (Place capacity self slot) }
-    {
-        if !self.fits(capacity) || slot.row >= self.rows || slot.column >= self.columns {
-            return None;
-        }
-        Some(self.slot_at(capacity, slot))
     }
 
     // The words of a slot, its mark and its packet.
@@ -97,22 +87,15 @@ impl Format {
     }
 
     // Where the words of a slot lie, its mark and its packet.
+    #[tactic(auto, using(crate::proofs::Places::slot_within))]
     pub(crate) fn range(self, capacity: usize, slot: Slot) -> Result<Range<usize>, Refusal>
         ensures range { IfOk result (λ range. SlotRange capacity self slot range.start range.end) }
         ensures refused { IfErr result (RefusedOutside capacity self slot) }
     {
-        let at = self.place(capacity, slot).ok_or(Refusal::OutsideGrid)?;
+        if !self.fits(capacity) || slot.row >= self.rows || slot.column >= self.columns {
+            return Err(Refusal::OutsideGrid);
+        }
+        let at = (slot.row * self.columns + slot.column) * (self.size + 1);
         Ok(at..at + self.size + 1)
-    }
-
-    #[tactic(auto, using(crate::proofs::Places::slot_within))]
-    fn slot_at(self, capacity: usize, slot: Slot) -> usize
-        requires fits { fits_in capacity self ≡ true }
-        requires row { slot.row < self.rows }
-        requires column { slot.column < self.columns }
-        ensures start { result ≡ start_of self slot }
-        ensures within { result + self.size + 1 ≤ capacity }
-    {
-        (slot.row * self.columns + slot.column) * (self.size + 1)
     }
 }
