@@ -68,8 +68,8 @@ replaced empty f s at k mark xs new ws p ends len is e =
       others = λ a b ne. ap (λ m. cond (has_slot m f a b) (content_of empty (slot_words (put_mid at (n + 1) xs new) (slot_at f a b) n)) None) same
           ∙ elim (cases_Bool (has_slot (length xs) f a b)) [
             | inl t ↦
-                let lb : b < c = ltb-true b c (and_parts _ _ t).1 in
-                let lj : s.column < c = ltb-true s.column c (and_parts _ _ p.is_inside).1 in
+                let lb : b < c = ltb-true b c (and_parts (ltb a (rows_of (length xs) f)) (ltb b c) t).1 in
+                let lj : s.column < c = ltb-true s.column c (and_parts (ltb s.row (rows_of (length xs) f)) (ltb s.column c) p.is_inside).1 in
                 let way = slots_apart (a * c + b) (s.row * c + s.column) (n + 1) (places_differ a b s.row s.column c lb lj ne) in
                 ap (λ l. cond (has_slot (length xs) f a b) (content_of empty l) None)
                 (words_there xs new at n (slot_at f a b) h l (elim way [ inl w ↦ inl (omega arith) | inr w ↦ inr (omega arith) ]))
