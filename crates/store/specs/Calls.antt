@@ -1,5 +1,5 @@
 -- What the calls of a slot store answer and do, by a format and a slot.
-use Rattle.std.specs.Prelude.{◌≡◌, ℕ, ◌+◌, ◌*◌, Bool, List, Ok, Err, Option, Result}
+use Rattle.std.specs.Prelude.{◌≡◌, ℕ, ◌+◌, ◌*◌, Bool, List, IsTrue, Ok, Err, Option, Result}
 use Rattle.refusal.specs.declared.Refusal.{Refusal}
 use Rattle.store.specs.declared.slots.Format.{Format}
 use Rattle.store.specs.declared.slots.Slot.{Slot}
@@ -12,6 +12,10 @@ word_count f = f.rows * f.columns * (f.size + 1)
 -- whether so many words are enough for a format that stores take
 abbrev pub fits_in : ℕ → Format → Bool
 fits_in capacity f = format_fits capacity f.rows f.columns f.size
+
+-- stores with words enough take the format
+abbrev pub IsStorable : Format → Type 0
+IsStorable f = IsTrue (fits_in (word_count f) f)
 
 abbrev pub refusal_of_format : ℕ → Format → Option (ℕ × List ℕ)
 refusal_of_format capacity f = format_refusal capacity f.rows f.columns f.size

@@ -1,9 +1,9 @@
 //! A store in memory. A slot's mark is 1 when it is filled, 0 when it is empty.
-ghost use Rattle.std.specs.Prelude.{◌≡◌, ◌<◌, ◌∷◌, IsTrue, length};
+ghost use Rattle.std.specs.Prelude.{◌≡◌, ◌<◌, ◌∷◌, length};
 ghost use Rattle.std.specs.Option.{SomeIff};
 ghost use Rattle.std.proofs.Common.{refl};
 ghost use Rattle.refusal.specs.Numbers.{refused_with};
-ghost use Rattle.store.specs.Calls.{fits_in, word_count, refusal_of_format, AfterFormat, refusal_of_put, AfterPut};
+ghost use Rattle.store.specs.Calls.{IsStorable, word_count, refusal_of_format, AfterFormat, refusal_of_put, AfterPut};
 ghost use Rattle.store.specs.Grids.{NoSlots};
 ghost use Rattle.store.specs.Layout.{start_of, format_after, words_after_clear, words_after_put};
 ghost use Rattle.store.specs.Memory.{capacity_of, grid_of, unmarked};
@@ -83,7 +83,7 @@ impl<'a> MemoryStore<'a> {
     /// assert_eq!(rt; MemoryStore::words_for(format), Some(30));
     /// ```
     pub fn words_for(format: Format) -> Option<usize>
-        ensures { SomeIff result (IsTrue (fits_in (word_count format) format)) (word_count format) }
+        ensures { SomeIff result (IsStorable format) (word_count format) }
     {
         format.word_count()
     }

@@ -1,11 +1,11 @@
 //! A store in NOR flash. Word 0 is the lock: 0 shut, 1 open.
 //! Slots follow it. A slot's mark is all ones when it is empty, 0 when it is filled.
 //! Programming a word leaves old AND new, so only an erased slot can take a packet.
-ghost use Rattle.std.specs.Prelude.{◌≡◌, ◌+◌, ◌-◌, ◌<◌, ◌∷◌, bit_and, drop, length, replicate, slice_index, slice_set, IsTrue, OnOk};
+ghost use Rattle.std.specs.Prelude.{◌≡◌, ◌+◌, ◌-◌, ◌<◌, ◌∷◌, bit_and, drop, length, replicate, slice_index, slice_set, OnOk};
 ghost use Rattle.std.specs.Option.{SomeIff};
 ghost use Rattle.std.proofs.Common.{refl};
 ghost use Rattle.refusal.specs.Numbers.{refused_with};
-ghost use Rattle.store.specs.Calls.{fits_in, word_count, EmptyGrid, refusal_of_format, AfterFormat, refusal_of_put, AfterPut};
+ghost use Rattle.store.specs.Calls.{IsStorable, word_count, EmptyGrid, refusal_of_format, AfterFormat, refusal_of_put, AfterPut};
 ghost use Rattle.store.specs.Grids.{NoSlots};
 ghost use Rattle.store.specs.Layout.{start_of, format_after};
 ghost use Rattle.store.specs.Nor.{capacity_of, erased, erased_blank, grid_of, lock_of, nor_grid, run_after_format, run_after_put};
@@ -180,7 +180,7 @@ impl<'a> NorStore<'a> {
     /// assert_eq!(rt; NorStore::words_for(format), Some(31));
     /// ```
     pub fn words_for(format: Format) -> Option<usize>
-        ensures { SomeIff result (IsTrue (fits_in (word_count format) format)) (word_count format + 1) }
+        ensures { SomeIff result (IsStorable format) (word_count format + 1) }
     {
         Some(format.word_count()? + 1)
     }

@@ -1,7 +1,7 @@
 //! How slots lie in a run of words: one after another, row by row, each a mark and then its packet.
-ghost use Rattle.std.specs.Prelude.{◌≡◌, ◌+◌, ◌*◌, ◌<◌, IfErr, IfOk, IsTrue, length};
+ghost use Rattle.std.specs.Prelude.{◌≡◌, IfErr, IfOk, length};
 ghost use Rattle.std.specs.Option.{SomeIff};
-ghost use Rattle.store.specs.Calls.{fits_in, word_count};
+ghost use Rattle.store.specs.Calls.{IsStorable, fits_in, word_count};
 ghost use Rattle.store.specs.Layout.{InSlot, RefusedOutside, SlotRange};
 
 use refusal::Refusal;
@@ -54,7 +54,7 @@ impl Format {
 
     // How many words the slots take; none where no store takes the format.
     pub(crate) fn word_count(self) -> Option<usize>
-        ensures { SomeIff result (IsTrue (fits_in (word_count self) self)) (word_count self) }
+        ensures { SomeIff result (IsStorable self) (word_count self) }
     {
         if self.rows == 0
             || self.rows > 1023
