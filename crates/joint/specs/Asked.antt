@@ -7,6 +7,7 @@ use Rattle.sender.specs.Numbering.{block_of, position_of, last}
 use Rattle.sender.specs.Sent.{sent}
 use Rattle.history.specs.declared.call.Call.TheVariants.{Take, Repair, Fetch}
 use Rattle.history.specs.declared.call.Entry.{Entry}
+use Rattle.joint.specs.Sends.{sends}
 use Rattle.joint.specs.declared.board.Board.{Board}
 use Rattle.joint.specs.declared.head_end.HeadEnd.{HeadEnd}
 
@@ -17,7 +18,7 @@ AtEach P entries = (k : ℕ) (e : Entry) → slice_get entries k ≡ Some e → 
 -- to take a frame that a head-end sends
 pub record AsksFrame (h : HeadEnd) (k : ℕ) (e : Entry) : Type 0 where
   pub call : e.call ≡ Take
-  pub frame : (number : ℕ) × (number ≤ last h.shape) × (parse e.run.items ≡ sent h.shape h.image.items h.parity.items number)
+  pub frame : (number : ℕ) × (number ≤ last h.shape) × (parse e.run.items ≡ sent (sends h) number)
 
 -- to repair block k, with a work run of its length
 pub record AsksRepair (s : Shape) (k : ℕ) (e : Entry) : Type 0 where

@@ -1,13 +1,14 @@
 -- What a board gave of a transmission.
-use Rattle.std.specs.Prelude.{◌≡◌, ℕ, ◌+◌, ◌-◌, ◌<◌, ◌≤◌, List, [], ◌∷◌, Some, None, Option, slice_get, drop}
+use Rattle.std.specs.Prelude.{◌≡◌, ℕ, ◌-◌, ◌<◌, ◌≤◌, List, [], ◌∷◌, Some, None, Option, slice_get, drop}
 use Rattle.refusal.specs.Numbers.{or_else}
-use Rattle.layout.specs.declared.shape.Shape.{Shape}
 use Rattle.sender.specs.Numbering.{block_of, position_of}
+use Rattle.sender.specs.Sending.{Sending}
 use Rattle.sender.specs.Sent.{packet_at, payload_of}
 use Rattle.history.specs.declared.call.Call.TheVariants.{Fetch}
 use Rattle.history.specs.declared.call.Answer.TheVariants.{Whole, Fetched}
 use Rattle.history.specs.declared.call.Entry.{Entry}
 use Rattle.history.specs.Turns.{refusal_in}
+use Rattle.joint.specs.Sends.{sends}
 use Rattle.joint.specs.declared.board.Board.{Board}
 use Rattle.joint.specs.declared.head_end.HeadEnd.{HeadEnd}
 
@@ -22,19 +23,22 @@ GaveIn block position words (Some e) = Gave block position words e
 GaveIn block position words None = ⊥
 
 -- every packet that was sent, of the image and of the parity, was fetched: in the order of the frames that carry them
-abbrev pub GaveAll : Shape → List ℕ → List ℕ → List Entry → Type 0
-GaveAll s image parity fetches =
-    (block position : ℕ) → block < s.blocks → position < s.positions
-    → (f : ℕ) × (1 ≤ f) × (block_of s f ≡ block) × (position_of s f ≡ position) × GaveIn block position (packet_at s image parity block position) (slice_get fetches (f - 1))
+abbrev pub GaveAll : Sending → List Entry → Type 0
+GaveAll t fetches =
+    (block position : ℕ) → block < t.shape.blocks → position < t.shape.positions
+    → (f : ℕ) × (1 ≤ f) × (block_of t.shape f ≡ block) × (position_of t.shape f ≡ position) × GaveIn block position (packet_at t block position) (slice_get fetches (f - 1))
+
+-- the packet of a frame was fetched
+abbrev pub GaveFrame : Sending → List Entry → ℕ → Type 0
+GaveFrame t fetches f = GaveIn (block_of t.shape f) (position_of t.shape f) (payload_of t f) (slice_get fetches (f - 1))
 
 -- the packets of the frames from 1 up to one, which is left out
-abbrev pub GaveBelow : Shape → List ℕ → List ℕ → List Entry → ℕ → Type 0
-GaveBelow s image parity fetches end =
-    (f : ℕ) → 1 ≤ f → f < end → GaveIn (block_of s f) (position_of s f) (payload_of s image parity f) (slice_get fetches (f - 1))
+abbrev pub GaveBelow : Sending → List Entry → ℕ → Type 0
+GaveBelow t fetches end = (f : ℕ) → 1 ≤ f → f < end → GaveFrame t fetches f
 
 -- a board gave every packet that a head-end sends: the fetches come behind the frames and a repair of each block
 abbrev pub GaveSent : HeadEnd → Board → Type 0
-GaveSent h b = GaveAll h.shape h.image.items h.parity.items (drop h.shape.blocks (drop b.heard b.entries.items))
+GaveSent h b = GaveAll (sends h) (drop h.shape.blocks (drop b.heard b.entries.items))
 
 -- there is an entry, and its block became whole with so many packets restored
 abbrev pub WholeIn : ℕ → Option Entry → Type 0

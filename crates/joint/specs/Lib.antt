@@ -1,3 +1,4 @@
 pub mod Image
+pub mod Sends
 pub mod Asked
 pub mod Held

@@ -1,6 +1,7 @@
 //! One board: what it is asked, and what it answered.
 ghost use Rattle.std.specs.Prelude.{◌≡◌, ◌↔◌, IsTrue, IfOk, drop, slice_get};
 ghost use Rattle.refusal.specs.Numbers.{refused_with};
+ghost use Rattle.sender.specs.Sending.{sending_of};
 ghost use Rattle.joint.specs.Asked.{Asked};
 ghost use Rattle.joint.specs.Held.{Gave, GaveAll, GaveSent, WholeIn, first_refusal};
 
@@ -37,8 +38,7 @@ fn gave(entry: &Entry, block: usize, position: usize, words: &[u32]) -> bool
 
 /// Whether every packet that was sent was fetched, of the image and of the parity.
 fn gave_all(fetches: &[Entry], sent: Transmission<'_>) -> Result<bool, Refusal>
-    ensures { IfOk result (λ all. IsTrue all ↔ GaveAll
-        sent.entry.shape.now sent.entry.image.now sent.entry.parity.now fetches.now) }
+    ensures { IfOk result (λ all. IsTrue all ↔ GaveAll (sending_of sent.entry) fetches.now) }
 {
     for number in 1..frames(sent.shape) {
         let (block, position) = place(sent.shape, number)?;

@@ -1,12 +1,12 @@
 // The head-end: the words of an image with their parity, and the frames that carry both.
 ghost use Rattle.std.specs.Prelude.{◌≡◌, ◌+◌, ◌*◌, ◌≤◌, vec_len, slice_index, IfOk};
 ghost use Rattle.std.specs.Int.{w32, from_be_bytes};
-ghost use Rattle.galois.specs.Field.{product};
 ghost use Rattle.layout.specs.Sizes.{packet_of};
 ghost use Rattle.frame.specs.Frames.{parse};
-ghost use Rattle.sender.specs.Prepared.{Prepared};
+ghost use Rattle.sender.specs.Sending.{sending_of};
 ghost use Rattle.sender.specs.Sent.{sent};
 ghost use Rattle.joint.specs.Image.{bytes_of, ShapeFor, WordsOf};
+ghost use Rattle.joint.specs.Sends.{sends, HoldsImage, HoldsParity};
 
 use field::octet::TabledOctet;
 use layout::shape::{Dimensions, Shape};
@@ -84,8 +84,8 @@ pub struct HeadEnd {
 impl HeadEnd {
     pub fn new(heap: Global, shape: Shape, bytes: &[u8]) -> anyhow::Result<HeadEnd>
         ensures shape { IfOk result (λ made. made.shape ≡ shape) }
-        ensures image { IfOk result (λ made. WordsOf bytes.now (shape.blocks * shape.sources * packet_of shape) made.image.items) }
-        ensures parity { IfOk result (λ made. Prepared shape (product 8 0x11D) made.image.items made.parity.items shape.blocks) }
+        ensures image { IfOk result (HoldsImage bytes.now) }
+        ensures parity { IfOk result HoldsParity }
     {
         let image = words_of(heap, bytes, words_in(&shape, shape.sources()))?;
         let mut parity = vec![in heap; 0; words_in(&shape, shape.parity())]?;
@@ -104,9 +104,7 @@ impl HeadEnd {
     }
 
     pub fn transmission(&self) -> Transmission<'_>
-        ensures shape { result.shape.now ≡ self.now.shape }
-        ensures image { result.image.now ≡ self.now.image.items }
-        ensures parity { result.parity.now ≡ self.now.parity.items }
+        ensures { sending_of result ≡ sends self.now }
     {
         Transmission {
             shape: &self.shape,
@@ -117,7 +115,7 @@ impl HeadEnd {
 
     // The words of the frame of a number: the shape is number 0.
     pub fn frame(&self, heap: Global, number: usize) -> anyhow::Result<Vec<u32>>
-        ensures { IfOk result (λ words. parse words.items ≡ sent self.now.shape self.now.image.items self.now.parity.items number) }
+        ensures { IfOk result (λ words. parse words.items ≡ sent (sends self.now) number) }
     {
         let length = if number == 0 {
             2

@@ -1,16 +1,17 @@
 -- The numbers of each frame fit their bits.
 use Rattle.std.proofs.Common.{◌≡◌, ℕ, zero, suc, ◌/◌, ◌%◌, ◌^◌, ◌<◌, ◌≤◌, true, eqb, leb, List, [], length, None, refl, mul_comm, pow_mono, arith}
 use Rattle.std.proofs.lemmas.Nat.{div_below, mod_below}
-use Rattle.layout.specs.declared.shape.Shape.{Shape}
 use Rattle.layout.proofs.Passes.{test_passes}
 use Rattle.frame.specs.Frames.{fits, frame_words, write_refusal}
 use Rattle.sender.specs.Numbering.{last}
 use Rattle.sender.proofs.Parts.{both_pass}
+use Rattle.sender.specs.Sending.{Sending}
 use Rattle.sender.specs.Sent.{sent, sent_refusal, frame_refusal}
 
-module _ (s : Shape) (image parity : List ℕ) where
-  sent_fits : (f : ℕ) → f ≤ last s → fits (sent s image parity f) ≡ true
+module _ (t : Sending) where
+  sent_fits : (f : ℕ) → f ≤ last t.shape → fits (sent t f) ≡ true
   sent_fits zero le =
+      let s = t.shape in
       let h : 2 ^ s.rows ≤ 2 ^ 10 = pow_mono s.field.1 in
       let few = s.length in
       let counts = s.counts in
@@ -18,6 +19,7 @@ module _ (s : Shape) (image parity : List ℕ) where
       let field = s.field in
       grind arith
   sent_fits (suc f) le =
+      let s = t.shape in
       let h : 2 ^ s.rows ≤ 2 ^ 10 = pow_mono s.field.1 in
       let few = s.length in
       let sizes = s.sizes in
@@ -26,10 +28,9 @@ module _ (s : Shape) (image parity : List ℕ) where
       grind arith
 
   -- a run of the frame's length is not refused by the writer, nor as a whole
-  pub written : (f : ℕ) (run : List ℕ) → None ≡ sent_refusal s image parity f → length run ≡ length (frame_words (sent s image parity f))
-      → write_refusal (sent s image parity f) run ≡ frame_refusal s image parity run f
+  pub written : (f : ℕ) (run : List ℕ) → None ≡ sent_refusal t f → length run ≡ length (frame_words (sent t f)) → write_refusal (sent t f) run ≡ frame_refusal t run f
   written f run passes long =
-      let within : leb f (last s) ≡ true = test_passes (leb f (last s)) (11, []) (both_pass _ _ passes).0 in
+      let within : leb f (last t.shape) ≡ true = test_passes (leb f (last t.shape)) (11, []) (both_pass _ _ passes).0 in
       let fit = sent_fits f (grind arith) in
-      let same : eqb (length run) (length (frame_words (sent s image parity f))) ≡ true = grind arith in
+      let same : eqb (length run) (length (frame_words (sent t f))) ≡ true = grind arith in
       rw (fit, same, ← passes) refl

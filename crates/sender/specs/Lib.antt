@@ -1,3 +1,4 @@
 pub mod Numbering
 pub mod Prepared
+pub mod Sending
 pub mod Sent

@@ -8,6 +8,14 @@ block_of s f = (f - 1) % s.blocks
 abbrev pub position_of : Shape → ℕ → ℕ
 position_of s f = (f - 1) / s.blocks
 
+-- a block and a position within it
+abbrev pub Inside : Shape → ℕ × ℕ → Type 0
+Inside s at = (at.0 < s.blocks) × (at.1 < s.positions)
+
+-- the block and the position whose packet a frame carries
+abbrev pub Carries : Shape → ℕ → ℕ × ℕ → Type 0
+Carries s f at = (at.0 ≡ block_of s f) × (at.1 ≡ position_of s f)
+
 -- the number of the last frame
 abbrev pub last : Shape → ℕ
 last s = s.blocks * s.positions

@@ -1,7 +1,6 @@
 -- An image, the parity words of its blocks, and what prepare does.
-use Rattle.std.specs.Prelude.{◌≡◌, ℕ, ◌+◌, ◌*◌, ◌<◌, List, Ok, Err, Option, Result}
+use Rattle.std.specs.Prelude.{ℕ, ◌+◌, ◌*◌, ◌<◌, List, Option}
 use Rattle.std.specs.List.{between}
-use Rattle.refusal.specs.declared.Refusal.{Refusal}
 use Rattle.refusal.specs.Numbers.{or_else}
 use Rattle.layout.specs.declared.shape.Shape.{Shape}
 use Rattle.layout.specs.Sizes.{parity_of, packet_of, Packets}
@@ -25,6 +24,6 @@ abbrev pub Prepared : Shape → (ℕ → ℕ → ℕ) → List ℕ → List ℕ 
 Prepared s prod image parity n =
     (b : ℕ) → b < n → Encoded s prod (part (s.sources * packet_of s) image b) (part (parity_of s * packet_of s) parity b)
 
-abbrev pub AfterPrepare : Shape → (ℕ → ℕ → ℕ) → List ℕ → List ℕ → List ℕ → Result (Unit {0}) Refusal → Type 0
-AfterPrepare s prod image before after (Ok u) = Packets s (s.blocks * parity_of s) after × Prepared s prod image after s.blocks
-AfterPrepare s prod image before after (Err e) = after ≡ before
+-- all blocks have
+abbrev pub AllPrepared : Shape → (ℕ → ℕ → ℕ) → List ℕ → List ℕ → Type 0
+AllPrepared s prod image parity = Packets s (s.blocks * parity_of s) parity × Prepared s prod image parity s.blocks

@@ -2,46 +2,53 @@
 use Rattle.std.specs.Prelude.{◌≡◌, ℕ, zero, suc, ◌+◌, ◌-◌, ◌*◌, cond, List, [], ◌∷◌, length, Some, None, Ok, Err, Option, Result, ◌==◌, nat_le, nat_lt}
 use Rattle.refusal.specs.declared.Refusal.{Refusal}
 use Rattle.refusal.specs.Numbers.{or_else}
-use Rattle.layout.specs.declared.shape.Shape.{Shape}
-use Rattle.layout.specs.Sizes.{parity_of, packet_of}
+use Rattle.layout.specs.Sizes.{parity_of, packet_of, Packets}
 use Rattle.layout.specs.Made.{dimensions_of}
 use Rattle.frame.specs.Frames.{Sight, shape, packet, frame_words, parse}
 use Rattle.sender.specs.Numbering.{block_of, position_of, last, number_refusal}
 use Rattle.sender.specs.Prepared.{part, runs_refusal}
+use Rattle.sender.specs.Sending.{Sending}
 
 -- the packet at a position of a block: of the parity words for a parity position, of the image for a source position
-abbrev pub packet_at : Shape → List ℕ → List ℕ → ℕ → ℕ → List ℕ
-packet_at s image parity block position =
+abbrev pub packet_at : Sending → ℕ → ℕ → List ℕ
+packet_at t block position =
+    let s = t.shape in
     cond (nat_lt position (parity_of s))
-    (part (packet_of s) parity (block * parity_of s + position))
-    (part (packet_of s) image (block * s.sources + (position - parity_of s)))
+    (part (packet_of s) t.parity (block * parity_of s + position))
+    (part (packet_of s) t.image (block * s.sources + (position - parity_of s)))
 
-abbrev pub payload_of : Shape → List ℕ → List ℕ → ℕ → List ℕ
-payload_of s image parity f = packet_at s image parity (block_of s f) (position_of s f)
+-- the packets of all blocks are there
+abbrev pub AllPackets : Sending → Type 0
+AllPackets t = Packets t.shape (t.shape.blocks * t.shape.sources) t.image × Packets t.shape (t.shape.blocks * parity_of t.shape) t.parity
 
-abbrev pub payload_refusal : Shape → List ℕ → List ℕ → ℕ → Option (ℕ × List ℕ)
-payload_refusal s image parity f = or_else (number_refusal s f) (runs_refusal s image parity)
+abbrev pub packets_refusal : Sending → Option (ℕ × List ℕ)
+packets_refusal t = runs_refusal t.shape t.image t.parity
+
+abbrev pub payload_of : Sending → ℕ → List ℕ
+payload_of t f = packet_at t (block_of t.shape f) (position_of t.shape f)
+
+abbrev pub payload_refusal : Sending → ℕ → Option (ℕ × List ℕ)
+payload_refusal t f = or_else (number_refusal t.shape f) (packets_refusal t)
 
 -- frame 0 is the shape; every other one has its block, its position and its payload
-abbrev pub sent : Shape → List ℕ → List ℕ → ℕ → Sight
-sent s image parity zero = shape (dimensions_of s)
-sent s image parity (suc f) = packet (block_of s (suc f)) (position_of s (suc f)) (payload_of s image parity (suc f))
+abbrev pub sent : Sending → ℕ → Sight
+sent t zero = shape (dimensions_of t.shape)
+sent t (suc f) = packet (block_of t.shape (suc f)) (position_of t.shape (suc f)) (payload_of t (suc f))
 
 -- refusal 11 above the last frame, then the runs
-abbrev pub sent_refusal : Shape → List ℕ → List ℕ → ℕ → Option (ℕ × List ℕ)
-sent_refusal s image parity f = or_else (cond (nat_le f (last s)) None (Some (11, []))) (runs_refusal s image parity)
+abbrev pub sent_refusal : Sending → ℕ → Option (ℕ × List ℕ)
+sent_refusal t f = or_else (cond (nat_le f (last t.shape)) None (Some (11, []))) (packets_refusal t)
 
 -- then refusal 5 with place 2, unless the run has the length of the frame
-abbrev pub frame_refusal : Shape → List ℕ → List ℕ → List ℕ → ℕ → Option (ℕ × List ℕ)
-frame_refusal s image parity run f =
-    or_else (sent_refusal s image parity f) (cond (length run == length (frame_words (sent s image parity f))) None (Some (5, 2 ∷ [])))
+abbrev pub frame_refusal : Sending → List ℕ → ℕ → Option (ℕ × List ℕ)
+frame_refusal t run f = or_else (sent_refusal t f) (cond (length run == length (frame_words (sent t f))) None (Some (5, 2 ∷ [])))
 
 -- the run has the words of the frame, or is as it was
-abbrev pub after_frame : Result (Unit {0}) Refusal → Shape → List ℕ → List ℕ → List ℕ → ℕ → List ℕ
-after_frame (Ok u) s image parity run f = frame_words (sent s image parity f)
-after_frame (Err e) s image parity run f = run
+abbrev pub after_frame : Result (Unit {0}) Refusal → Sending → List ℕ → ℕ → List ℕ
+after_frame (Ok u) t run f = frame_words (sent t f)
+after_frame (Err e) t run f = run
 
 -- what was written reads back as the shape, or as the block, the position and the payload
-abbrev pub Received : Result (Unit {0}) Refusal → Shape → List ℕ → List ℕ → ℕ → List ℕ → Type 0
-Received (Ok u) s image parity f run = parse run ≡ sent s image parity f
-Received (Err e) s image parity f run = Unit {0}
+abbrev pub Received : Result (Unit {0}) Refusal → Sending → ℕ → List ℕ → Type 0
+Received (Ok u) t f run = parse run ≡ sent t f
+Received (Err e) t f run = Unit {0}

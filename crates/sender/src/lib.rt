@@ -3,7 +3,8 @@
 
 ghost use Rattle.std.specs.Prelude.{◌≡◌};
 ghost use Rattle.refusal.specs.Numbers.{refused_with};
-ghost use Rattle.sender.specs.Prepared.{runs_refusal};
+ghost use Rattle.sender.specs.Sending.{sending_of};
+ghost use Rattle.sender.specs.Sent.{packets_refusal};
 
 use layout::shape::Shape;
 use refusal::Refusal;
@@ -26,7 +27,7 @@ pub struct Transmission<'a> {
 impl Transmission<'_> {
     // Refuses runs that are not of all blocks.
     pub(crate) fn check_runs(&self) -> Result<(), Refusal>
-        ensures { refused_with result ≡ runs_refusal self.now.shape.now self.now.image.now self.now.parity.now }
+        ensures { refused_with result ≡ packets_refusal (sending_of self.now) }
     {
         let shape = self.shape;
         shape.check_run(shape.blocks() * shape.sources(), self.image, 0)?;

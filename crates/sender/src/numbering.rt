@@ -1,7 +1,7 @@
 // Which packet a frame carries.
-ghost use Rattle.std.specs.Prelude.{◌≡◌, ◌+◌, ◌<◌, ◌≤◌, IfOk};
+ghost use Rattle.std.specs.Prelude.{◌≡◌, ◌+◌, ◌≤◌, IfOk};
 ghost use Rattle.refusal.specs.Numbers.{refused_with};
-ghost use Rattle.sender.specs.Numbering.{number_refusal, block_of, position_of, last, EachOnce};
+ghost use Rattle.sender.specs.Numbering.{number_refusal, Inside, Carries, last, EachOnce};
 
 use layout::shape::Shape;
 use refusal::Refusal;
@@ -17,8 +17,8 @@ pub fn frames(shape: &Shape) -> usize
 // The block and the position of a packet frame, from frame 1 on: neighbouring frames are of different blocks.
 pub fn place(shape: &Shape, frame: usize) -> Result<(usize, usize), Refusal>
     ensures answer { refused_with result ≡ number_refusal shape.now frame }
-    ensures value { IfOk result (λ at. (at.0 ≡ block_of shape.now frame) × (at.1 ≡ position_of shape.now frame)) }
-    ensures inside { IfOk result (λ at. (at.0 < shape.now.blocks) × (at.1 < shape.now.positions)) }
+    ensures value { IfOk result (Carries shape.now frame) }
+    ensures inside { IfOk result (Inside shape.now) }
     ensures each { EachOnce shape.now }
 {
     let blocks = shape.blocks();

@@ -1,8 +1,8 @@
 // The parity of a whole image.
-ghost use Rattle.std.specs.Prelude.{◌≡◌, ◌*◌, ◌≤◌};
+ghost use Rattle.std.specs.Prelude.{◌≡◌, ◌*◌, ◌≤◌, OnOk, OnErr};
 ghost use Rattle.refusal.specs.Numbers.{refused_with};
 ghost use Rattle.layout.specs.Sizes.{packet_of};
-ghost use Rattle.sender.specs.Prepared.{prepare_refusal, AfterPrepare};
+ghost use Rattle.sender.specs.Prepared.{prepare_refusal, AllPrepared};
 
 use crate::Transmission;
 use code::block::encode;
@@ -25,8 +25,10 @@ pub fn prepare<F: Arithmetic>(
     image: &[u32],
     parity: &mut [u32],
 ) -> Result<(), Refusal>
-    ensures answer { refused_with result ≡ prepare_refusal F.Arithmetic.bits shape.now image.now parity.old }
-    ensures after { AfterPrepare shape.now F.Arithmetic.prod image.now parity.old parity.new result }
+    ensures answer { refused_with result ≡
+        prepare_refusal F.Arithmetic.bits shape.now image.now parity.old }
+    ensures parity { OnOk result (AllPrepared shape.now F.Arithmetic.prod image.now parity.new) }
+    ensures kept { OnErr result (parity.new ≡ parity.old) }
 {
     shape.check_width::<F>()?;
     Transmission {

@@ -8,7 +8,7 @@ slice_bounds-result-end c =
     let s = c.args.self.now.shape.now in
     let e = c.parity-parity.ensures in
     let lt = place_lt c.args.block c.parity-parity.result c.args.position s.blocks c.requires.inside.0 c.if-position-parity.true in
-    let end = part_ends _ (s.blocks * c.parity-parity.result) c.packet-size.result (ap (λ r. s.blocks * r) e) c.packet-size.ensures.value c.requires.parity lt in
+    let end = part_ends _ (s.blocks * c.parity-parity.result) c.packet-size.result (ap (λ r. s.blocks * r) e) c.packet-size.ensures.value c.requires.packets.1 lt in
     search rules
 
 pub slice_bounds-result-end-else-position-parity : goal.slice_bounds-result-end-else-position-parity
@@ -19,5 +19,5 @@ slice_bounds-result-end-else-position-parity c =
     let k = s.counts in
     let not = c.if-position-parity.false in
     let lt = place_lt c.args.block c.sources.result (c.args.position - c.parity-parity.result) s.blocks c.requires.inside.0 (let i = c.requires.inside.1 in omega arith) in
-    let end = part_ends _ (s.blocks * c.sources.result) c.packet-size.result (ap (λ r. s.blocks * r) e) c.packet-size.ensures.value c.requires.image lt in
+    let end = part_ends _ (s.blocks * c.sources.result) c.packet-size.result (ap (λ r. s.blocks * r) e) c.packet-size.ensures.value c.requires.packets.0 lt in
     search rules

@@ -51,8 +51,8 @@ returns-in_err-encode-clause-answer g c =
     let turn = block_turn s c.args.image.now c.loop-block.parity (length c.loop-block.yielded) _ _ _ _ _ image (c.loop-block.auto.parity ∙ parity) v.size of v.left step.1 in
     passed _ _ (rw (sym (number ∙ v.count)) at (encodes s g.F.Arithmetic.bits _ _ _ _ _ _ c.in_ok-check_width.ensures of turn)) c.in_err-encode.ensures.answer
 
-pub returns-in_err-encode-clause-after : goal.returns-in_err-encode-clause-after
-returns-in_err-encode-clause-after g c =
+pub returns-in_err-encode-clause-kept : goal.returns-in_err-encode-clause-kept
+returns-in_err-encode-clause-kept g c =
     let s = c.args.shape.now in
     let v = c.loop-block.invariant in
     let (step, number, _, _) = c.in-Some.ensures.steps in
@@ -61,8 +61,8 @@ returns-in_err-encode-clause-after g c =
     let turn = block_turn s c.args.image.now c.loop-block.parity (length c.loop-block.yielded) _ _ _ _ _ image (c.loop-block.auto.parity ∙ parity) v.size of v.left step.1 in
     passed _ _ (rw (sym (number ∙ v.count)) at (encodes s g.F.Arithmetic.bits _ _ _ _ _ _ c.in_ok-check_width.ensures of turn)) c.in_err-encode.ensures.answer
 
-pub returns-clause-after : goal.returns-clause-after
-returns-clause-after g c =
+pub returns-clause-parity : goal.returns-clause-parity
+returns-clause-parity g c =
     let s = c.args.shape.now in
     let v = c.loop-block.invariant in
     let (step, _) = c.in-None.ensures.steps in
