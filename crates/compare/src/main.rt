@@ -1,7 +1,8 @@
 // Cases with the results that they must have, read from standard input one to a line, compared with the library's.
 #![tactic(auto)]
 
-ghost use Rattle.std.specs.Prelude.{◌≡◌, ◌≢◌, ◌≤◌, ◌↔◌, IsTrue, OnOk, string_bytes};
+ghost use Rattle.std.specs.Prelude.{◌≤◌, ◌↔◌, IsTrue, OnOk};
+ghost use Rattle.compare.specs.Tallies.{Agrees, Grows, IsClean};
 
 mod arithmetic;
 mod cases;
@@ -34,8 +35,8 @@ impl Tally {
 
     // Counts a case.
     fn count(&mut self, heap: Global, case: &Case) -> Result<(), AllocError>
-        ensures differs { OnOk result (string_bytes case.now.got ≢ case.now.expected.now → 1 ≤ self.new.differ) }
-        ensures kept { (self.old.differ ≤ self.new.differ) × (self.old.errors ≤ self.new.errors) }
+        ensures differs { OnOk result (¬ Agrees case.now → 1 ≤ self.new.differ) }
+        ensures kept { Grows self.old self.new }
     {
         let name = String::from_str(heap, case.name)?;
         let count = self.compared.entry(name)?.or_insert(0);
@@ -49,7 +50,7 @@ impl Tally {
     // Tells of a line that is no case.
     fn refuse(&mut self, rt: &HostRuntime, number: u64, error: Error) -> anyhow::Result<()>
         ensures errors { 1 ≤ self.new.errors }
-        ensures kept { (self.old.differ ≤ self.new.differ) × (self.old.errors ≤ self.new.errors) }
+        ensures kept { Grows self.old self.new }
     {
         self.errors = self.errors.saturating_add(1);
         println!(rt; "error: line {number}: {error}")?;
@@ -58,7 +59,7 @@ impl Tally {
 
     // Makes the call of a line, and compares.
     fn compare(&mut self, rt: &HostRuntime, number: u64, line: &str) -> anyhow::Result<()>
-        ensures kept { (self.old.differ ≤ self.new.differ) × (self.old.errors ≤ self.new.errors) }
+        ensures kept { Grows self.old self.new }
     {
         match Case::read(rt.alloc(), line) {
             Ok(case) => {
@@ -75,7 +76,7 @@ impl Tally {
 
     // Whether every line was a case with the library's result.
     fn is_clean(&self) -> bool
-        ensures { IsTrue result ↔ ((self.now.differ ≡ 0) × (self.now.errors ≡ 0)) }
+        ensures { IsTrue result ↔ IsClean self.now }
     {
         self.differ == 0 && self.errors == 0
     }
@@ -117,7 +118,7 @@ impl<'a> Case<'a> {
 
     // Whether the library gave what it must.
     fn agrees(&self) -> bool
-        ensures { IsTrue result ↔ (string_bytes self.now.got ≡ self.now.expected.now) }
+        ensures { IsTrue result ↔ Agrees self.now }
     {
         self.got.as_str() == self.expected
     }

@@ -11,9 +11,9 @@ use crate::tabled::{Logarithms, Tabled};
 pub trait PolynomialField: Arithmetic {
     ghost poly: { ℕ };
 
-    ghost generates: { Primitive Self.Arithmetic.bits poly };
+    ghost generates: { Primitive Self.bits poly };
 
-    ghost reduces: { (a b : ℕ) → Self.Arithmetic.prod a b ≡ product Self.Arithmetic.bits poly a b };
+    ghost reduces: { (a b : ℕ) → Self.prod a b ≡ product Self.bits poly a b };
 }
 
 impl PolynomialField for SteppedOctet {
