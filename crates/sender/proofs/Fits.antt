@@ -1,6 +1,8 @@
 -- The numbers of each frame fit their bits.
-use Rattle.std.proofs.Common.{◌≡◌, ℕ, zero, suc, ◌/◌, ◌%◌, ◌^◌, ◌<◌, ◌≤◌, true, eqb, leb, List, [], length, None, refl, mul_comm, pow_mono, arith}
+use Rattle.std.proofs.Common.{◌≡◌, ℕ, zero, suc, ◌/◌, ◌%◌, ◌^◌, ◌<◌, ◌≤◌, true, eqb, leb, List, length, None, refl, mul_comm, pow_mono, arith}
 use Rattle.std.proofs.lemmas.Nat.{div_below, mod_below}
+use Rattle.refusal.specs.declared.Refusal.TheVariants.{OutsideShape}
+use Rattle.refusal.specs.Numbers.{said}
 use Rattle.layout.proofs.Passes.{test_passes}
 use Rattle.frame.specs.Frames.{fits, frame_words, write_refusal}
 use Rattle.sender.specs.Numbering.{last}
@@ -30,7 +32,7 @@ module _ (t : Sending) where
   -- a run of the frame's length is not refused by the writer, nor as a whole
   pub written : (f : ℕ) (run : List ℕ) → None ≡ sent_refusal t f → length run ≡ length (frame_words (sent t f)) → write_refusal (sent t f) run ≡ frame_refusal t run f
   written f run passes long =
-      let within : leb f (last t.shape) ≡ true = test_passes (leb f (last t.shape)) (11, []) (both_pass _ _ passes).0 in
+      let within : leb f (last t.shape) ≡ true = test_passes (leb f (last t.shape)) (said OutsideShape) (both_pass _ _ passes).0 in
       let fit = sent_fits f (grind arith) in
       let same : eqb (length run) (length (frame_words (sent t f))) ≡ true = grind arith in
       rw (fit, same, ← passes) refl

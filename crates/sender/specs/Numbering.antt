@@ -1,5 +1,7 @@
 -- Frame 0 is the shape; frame f, from 1 on, carries a packet.
-use Rattle.std.specs.Prelude.{◌≡◌, ℕ, ◌-◌, ◌*◌, ◌/◌, ◌%◌, ◌<◌, ◌≤◌, cond, ◌&&◌, List, [], Some, None, Option, nat_le}
+use Rattle.std.specs.Prelude.{◌≡◌, ℕ, ◌-◌, ◌*◌, ◌/◌, ◌%◌, ◌<◌, ◌≤◌, cond, ◌&&◌, List, Some, None, Option, nat_le}
+use Rattle.refusal.specs.declared.Refusal.TheVariants.{OutsideShape}
+use Rattle.refusal.specs.Numbers.{said}
 use Rattle.layout.specs.declared.shape.Shape.{Shape}
 
 abbrev pub block_of : Shape → ℕ → ℕ
@@ -20,9 +22,9 @@ Carries s f at = (at.0 ≡ block_of s f) × (at.1 ≡ position_of s f)
 abbrev pub last : Shape → ℕ
 last s = s.blocks * s.positions
 
--- refusal 11, unless the frame is one of a packet
+-- refused, unless the frame is one of a packet
 abbrev pub number_refusal : Shape → ℕ → Option (ℕ × List ℕ)
-number_refusal s f = cond (nat_le 1 f && nat_le f (last s)) None (Some (11, []))
+number_refusal s f = cond (nat_le 1 f && nat_le f (last s)) None (Some (said OutsideShape))
 
 -- the frame that carries a position of a block, and the only one
 pub record Carried (s : Shape) (block position : ℕ) : Type 0 where

@@ -11,7 +11,7 @@ use Rattle.code.specs.Calls.{Encoded}
 abbrev pub part : ℕ → List ℕ → ℕ → List ℕ
 part words run i = between (i * words) (i * words + words) run
 
--- refusal 5 with the place of the first run, image or parity words, that has not the packets of all blocks
+-- the first run, image or parity words, that has not the packets of all blocks is refused by its place
 abbrev pub runs_refusal : Shape → List ℕ → List ℕ → Option (ℕ × List ℕ)
 runs_refusal s image parity =
     or_else (run_refusal s (s.blocks * s.sources) image 0) (run_refusal s (s.blocks * parity_of s) parity 1)

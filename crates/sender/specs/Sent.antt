@@ -1,7 +1,8 @@
 -- What each frame of a transmission holds.
-use Rattle.std.specs.Prelude.{◌≡◌, ℕ, zero, suc, ◌+◌, ◌-◌, ◌*◌, cond, List, [], ◌∷◌, length, Some, None, Ok, Err, Option, Result, ◌==◌, nat_le, nat_lt}
+use Rattle.std.specs.Prelude.{◌≡◌, ℕ, zero, suc, ◌+◌, ◌-◌, ◌*◌, cond, List, length, Some, None, Ok, Err, Option, Result, ◌==◌, nat_le, nat_lt}
 use Rattle.refusal.specs.declared.Refusal.{Refusal}
-use Rattle.refusal.specs.Numbers.{or_else}
+use Rattle.refusal.specs.declared.Refusal.TheVariants.{OutsideShape, WrongRun}
+use Rattle.refusal.specs.Numbers.{said, or_else}
 use Rattle.layout.specs.Sizes.{parity_of, packet_of, Packets}
 use Rattle.layout.specs.Made.{dimensions_of}
 use Rattle.frame.specs.Frames.{Sight, shape, packet, frame_words, parse}
@@ -35,13 +36,13 @@ abbrev pub sent : Sending → ℕ → Sight
 sent t zero = shape (dimensions_of t.shape)
 sent t (suc f) = packet (block_of t.shape (suc f)) (position_of t.shape (suc f)) (payload_of t (suc f))
 
--- refusal 11 above the last frame, then the runs
+-- a number above that of the last frame is refused before runs that are not of all blocks
 abbrev pub sent_refusal : Sending → ℕ → Option (ℕ × List ℕ)
-sent_refusal t f = or_else (cond (nat_le f (last t.shape)) None (Some (11, []))) (packets_refusal t)
+sent_refusal t f = or_else (cond (nat_le f (last t.shape)) None (Some (said OutsideShape))) (packets_refusal t)
 
--- then refusal 5 with place 2, unless the run has the length of the frame
+-- then a run that has not the length of the frame
 abbrev pub frame_refusal : Sending → List ℕ → ℕ → Option (ℕ × List ℕ)
-frame_refusal t run f = or_else (sent_refusal t f) (cond (length run == length (frame_words (sent t f))) None (Some (5, 2 ∷ [])))
+frame_refusal t run f = or_else (sent_refusal t f) (cond (length run == length (frame_words (sent t f))) None (Some (said (WrongRun 2))))
 
 -- the run has the words of the frame, or is as it was
 abbrev pub after_frame : Result (Unit {0}) Refusal → Sending → List ℕ → ℕ → List ℕ
