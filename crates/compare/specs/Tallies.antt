@@ -4,8 +4,8 @@ use Rattle.compare.specs.declared.Case.{Case}
 use Rattle.compare.specs.declared.Tally.{Tally}
 
 -- the library gave what it must
-abbrev pub Agrees : Case → Type 0
-Agrees case = string_bytes case.got ≡ case.expected.now
+abbrev pub IsAsExpected : Case → Type 0
+IsAsExpected case = string_bytes case.got ≡ case.expected.now
 
 -- no count falls
 abbrev pub Grows : Tally → Tally → Type 0

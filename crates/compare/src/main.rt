@@ -2,7 +2,7 @@
 #![tactic(auto)]
 
 ghost use Rattle.std.specs.Prelude.{◌≤◌, ◌↔◌, IsTrue, OnOk};
-ghost use Rattle.compare.specs.Tallies.{Agrees, Grows, IsClean};
+ghost use Rattle.compare.specs.Tallies.{IsAsExpected, Grows, IsClean};
 
 mod arithmetic;
 mod cases;
@@ -35,7 +35,7 @@ impl Tally {
 
     // Counts a case.
     fn count(&mut self, heap: Global, case: &Case) -> Result<(), AllocError>
-        ensures differs { OnOk result (¬ Agrees case.now → 1 ≤ self.new.differ) }
+        ensures differs { OnOk result (¬ IsAsExpected case.now → 1 ≤ self.new.differ) }
         ensures kept { Grows self.old self.new }
     {
         let name = String::from_str(heap, case.name)?;
@@ -118,7 +118,7 @@ impl<'a> Case<'a> {
 
     // Whether the library gave what it must.
     fn agrees(&self) -> bool
-        ensures { IsTrue result ↔ Agrees self.now }
+        ensures { IsTrue result ↔ IsAsExpected self.now }
     {
         self.got.as_str() == self.expected
     }

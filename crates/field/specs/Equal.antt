@@ -7,13 +7,13 @@ pub record EqualProducts (bits : ℕ) (prod : ℕ → ℕ → ℕ) (bits' : ℕ)
   pub width : bits ≡ bits'
   pub products : (a b : ℕ) → a < 2 ^ bits → b < 2 ^ bits → prod a b ≡ prod' a b
 
-abbrev pub Alike : {F G : Type 0} → Arithmetic.Ghosts F → Arithmetic.Ghosts G → Type 0
-Alike f g = EqualProducts f.bits f.prod g.bits g.prod
+abbrev pub EqualArithmetics : {F G : Type 0} → Arithmetic.Ghosts F → Arithmetic.Ghosts G → Type 0
+EqualArithmetics f g = EqualProducts f.bits f.prod g.bits g.prod
 
 -- the product of the elements that two words stand for
 abbrev pub product_read : {F : Type 0} → Arithmetic.Ghosts F → ℕ → ℕ → ℕ
 product_read f a b = f.prod (a % 2 ^ f.bits) (b % 2 ^ f.bits)
 
 -- the widths are equal, and the products of two words
-abbrev pub AlikeAt : {F G : Type 0} → Arithmetic.Ghosts F → Arithmetic.Ghosts G → ℕ → ℕ → Type 0
-AlikeAt f g a b = (f.bits ≡ g.bits) × (product_read f a b ≡ product_read g a b)
+abbrev pub EqualAt : {F G : Type 0} → Arithmetic.Ghosts F → Arithmetic.Ghosts G → ℕ → ℕ → Type 0
+EqualAt f g a b = (f.bits ≡ g.bits) × (product_read f a b ≡ product_read g a b)

@@ -3,7 +3,7 @@ use Rattle.std.specs.Prelude.{◌≡◌, ℕ, ◌+◌, ◌≤◌, List, ◌++◌
 use Rattle.layout.specs.declared.shape.Shape.{Shape}
 use Rattle.layout.specs.Sizes.{parity_of, Packets}
 use Rattle.frame.specs.Frames.{parse}
-use Rattle.sender.specs.Numbering.{block_of, position_of, last}
+use Rattle.sender.specs.Numbering.{frame_block, frame_position, last_frame}
 use Rattle.sender.specs.Sent.{sent}
 use Rattle.history.specs.declared.call.Call.TheVariants.{Take, Repair, Fetch}
 use Rattle.history.specs.declared.call.Entry.{Entry}
@@ -18,7 +18,7 @@ AtEach P entries = (k : ℕ) (e : Entry) → slice_get entries k ≡ Some e → 
 -- to take a frame that a head-end sends
 pub record AsksFrame (h : HeadEnd) (k : ℕ) (e : Entry) : Type 0 where
   pub call : e.call ≡ Take
-  pub frame : (number : ℕ) × (number ≤ last h.shape) × (parse e.run.items ≡ sent (sends h) number)
+  pub frame : (number : ℕ) × (number ≤ last_frame h.shape) × (parse e.run.items ≡ sent (sends h) number)
 
 -- to repair block k, with a work run of its length
 pub record AsksRepair (s : Shape) (k : ℕ) (e : Entry) : Type 0 where
@@ -27,7 +27,7 @@ pub record AsksRepair (s : Shape) (k : ℕ) (e : Entry) : Type 0 where
 
 -- to fetch the packet of frame k + 1, into a run of its length
 pub record AsksFetch (s : Shape) (k : ℕ) (e : Entry) : Type 0 where
-  pub call : e.call ≡ Fetch (block_of s (k + 1)) (position_of s (k + 1))
+  pub call : e.call ≡ Fetch (frame_block s (k + 1)) (frame_position s (k + 1))
   pub right : Packets s 1 e.run.items
 
 -- the repairs of all blocks; the fetches of all packets
@@ -35,7 +35,7 @@ abbrev pub Repairs : Shape → List Entry → Type 0
 Repairs s entries = (length entries ≡ s.blocks) × AtEach (AsksRepair s) entries
 
 abbrev pub FetchesAll : Shape → List Entry → Type 0
-FetchesAll s entries = (length entries ≡ last s) × AtEach (AsksFetch s) entries
+FetchesAll s entries = (length entries ≡ last_frame s) × AtEach (AsksFetch s) entries
 
 -- all that a board is asked, in this order
 pub record Asked (h : HeadEnd) (b : Board) : Type 0 where

@@ -1,7 +1,7 @@
 -- What a board gave of a transmission.
 use Rattle.std.specs.Prelude.{◌≡◌, ℕ, ◌-◌, ◌<◌, ◌≤◌, List, [], ◌∷◌, Some, None, Option, slice_get, drop}
 use Rattle.refusal.specs.Numbers.{or_else}
-use Rattle.sender.specs.Numbering.{block_of, position_of}
+use Rattle.sender.specs.Numbering.{frame_block, frame_position}
 use Rattle.sender.specs.Sending.{Sending}
 use Rattle.sender.specs.Sent.{packet_at, payload_of}
 use Rattle.history.specs.declared.call.Call.TheVariants.{Fetch}
@@ -26,11 +26,11 @@ GaveIn block position words None = ⊥
 abbrev pub GaveAll : Sending → List Entry → Type 0
 GaveAll t fetches =
     (block position : ℕ) → block < t.shape.blocks → position < t.shape.positions
-    → (f : ℕ) × (1 ≤ f) × (block_of t.shape f ≡ block) × (position_of t.shape f ≡ position) × GaveIn block position (packet_at t block position) (slice_get fetches (f - 1))
+    → (f : ℕ) × (1 ≤ f) × (frame_block t.shape f ≡ block) × (frame_position t.shape f ≡ position) × GaveIn block position (packet_at t block position) (slice_get fetches (f - 1))
 
 -- the packet of a frame was fetched
 abbrev pub GaveFrame : Sending → List Entry → ℕ → Type 0
-GaveFrame t fetches f = GaveIn (block_of t.shape f) (position_of t.shape f) (payload_of t f) (slice_get fetches (f - 1))
+GaveFrame t fetches f = GaveIn (frame_block t.shape f) (frame_position t.shape f) (payload_of t f) (slice_get fetches (f - 1))
 
 -- the packets of the frames from 1 up to one, which is left out
 abbrev pub GaveBelow : Sending → List Entry → ℕ → Type 0

@@ -5,13 +5,13 @@ use Rattle.refusal.specs.declared.Refusal.TheVariants.{OutsideShape}
 use Rattle.refusal.specs.Numbers.{said}
 use Rattle.layout.proofs.Passes.{test_passes}
 use Rattle.frame.specs.Frames.{fits, frame_words, write_refusal}
-use Rattle.sender.specs.Numbering.{last}
+use Rattle.sender.specs.Numbering.{last_frame}
 use Rattle.sender.proofs.Parts.{both_pass}
 use Rattle.sender.specs.Sending.{Sending}
 use Rattle.sender.specs.Sent.{sent, sent_refusal, frame_refusal}
 
 module _ (t : Sending) where
-  sent_fits : (f : ℕ) → f ≤ last t.shape → fits (sent t f) ≡ true
+  sent_fits : (f : ℕ) → f ≤ last_frame t.shape → fits (sent t f) ≡ true
   sent_fits zero le =
       let s = t.shape in
       let h : 2 ^ s.rows ≤ 2 ^ 10 = pow_mono s.field.1 in
@@ -32,7 +32,7 @@ module _ (t : Sending) where
   -- a run of the frame's length is not refused by the writer, nor as a whole
   pub written : (f : ℕ) (run : List ℕ) → None ≡ sent_refusal t f → length run ≡ length (frame_words (sent t f)) → write_refusal (sent t f) run ≡ frame_refusal t run f
   written f run passes long =
-      let within : leb f (last t.shape) ≡ true = test_passes (leb f (last t.shape)) (said OutsideShape) (both_pass _ _ passes).0 in
+      let within : leb f (last_frame t.shape) ≡ true = test_passes (leb f (last_frame t.shape)) (said OutsideShape) (both_pass _ _ passes).0 in
       let fit = sent_fits f (grind arith) in
       let same : eqb (length run) (length (frame_words (sent t f))) ≡ true = grind arith in
       rw (fit, same, ← passes) refl

@@ -6,7 +6,7 @@ use Rattle.refusal.specs.Numbers.{said, or_else}
 use Rattle.layout.specs.Sizes.{parity_of, packet_of, Packets}
 use Rattle.layout.specs.Made.{dimensions_of}
 use Rattle.frame.specs.Frames.{Sight, shape, packet, frame_words, parse}
-use Rattle.sender.specs.Numbering.{block_of, position_of, last, number_refusal}
+use Rattle.sender.specs.Numbering.{frame_block, frame_position, last_frame, number_refusal}
 use Rattle.sender.specs.Prepared.{part, runs_refusal}
 use Rattle.sender.specs.Sending.{Sending}
 
@@ -26,7 +26,7 @@ abbrev pub packets_refusal : Sending → Option (ℕ × List ℕ)
 packets_refusal t = runs_refusal t.shape t.image t.parity
 
 abbrev pub payload_of : Sending → ℕ → List ℕ
-payload_of t f = packet_at t (block_of t.shape f) (position_of t.shape f)
+payload_of t f = packet_at t (frame_block t.shape f) (frame_position t.shape f)
 
 abbrev pub payload_refusal : Sending → ℕ → Option (ℕ × List ℕ)
 payload_refusal t f = or_else (number_refusal t.shape f) (packets_refusal t)
@@ -34,11 +34,11 @@ payload_refusal t f = or_else (number_refusal t.shape f) (packets_refusal t)
 -- frame 0 is the shape; every other one has its block, its position and its payload
 abbrev pub sent : Sending → ℕ → Sight
 sent t zero = shape (dimensions_of t.shape)
-sent t (suc f) = packet (block_of t.shape (suc f)) (position_of t.shape (suc f)) (payload_of t (suc f))
+sent t (suc f) = packet (frame_block t.shape (suc f)) (frame_position t.shape (suc f)) (payload_of t (suc f))
 
 -- a number above that of the last frame is refused before runs that are not of all blocks
 abbrev pub sent_refusal : Sending → ℕ → Option (ℕ × List ℕ)
-sent_refusal t f = or_else (cond (nat_le f (last t.shape)) None (Some (said OutsideShape))) (packets_refusal t)
+sent_refusal t f = or_else (cond (nat_le f (last_frame t.shape)) None (Some (said OutsideShape))) (packets_refusal t)
 
 -- then a run that has not the length of the frame
 abbrev pub frame_refusal : Sending → List ℕ → ℕ → Option (ℕ × List ℕ)

@@ -3,7 +3,7 @@ ghost use Rattle.std.specs.Prelude.{◌≡◌, length, IfOk};
 ghost use Rattle.refusal.specs.Numbers.{refused_with};
 ghost use Rattle.layout.specs.Sizes.{packet_of};
 ghost use Rattle.frame.specs.Frames.{content_of};
-ghost use Rattle.sender.specs.Numbering.{Inside};
+ghost use Rattle.sender.specs.Numbering.{InsideShape};
 ghost use Rattle.sender.specs.Sending.{sending_of};
 ghost use Rattle.sender.specs.Sent.{AllPackets, packet_at, payload_of, payload_refusal, sent, sent_refusal, frame_refusal, after_frame, Received};
 
@@ -16,7 +16,7 @@ impl<'a> Transmission<'a> {
     // The packet at a position of a block: a part of the parity words, or of the image.
     fn packet(&self, block: usize, position: usize) -> &'a [u32]
         requires packets { AllPackets (sending_of self.now) }
-        requires inside { Inside self.now.shape.now (block, position) }
+        requires inside { InsideShape self.now.shape.now (block, position) }
         ensures value { result.now ≡ packet_at (sending_of self.now) block position }
         ensures length { length result.now ≡ packet_of self.now.shape.now }
     {
@@ -34,7 +34,7 @@ impl<'a> Transmission<'a> {
     // The words that a packet frame carries behind its header.
     pub fn payload(&self, frame: usize) -> Result<&'a [u32], Refusal>
         ensures answer { refused_with result ≡ payload_refusal (sending_of self.now) frame }
-        ensures value { IfOk result (λ words. words.now ≡ payload_of (sending_of self.now) frame) }
+        ensures value { IfOk result (λ run. run.now ≡ payload_of (sending_of self.now) frame) }
     {
         let (block, position) = place(self.shape, frame)?;
         self.check_runs()?;

@@ -1,14 +1,14 @@
 // Which packet a frame carries.
 ghost use Rattle.std.specs.Prelude.{◌≡◌, ◌+◌, ◌≤◌, IfOk};
 ghost use Rattle.refusal.specs.Numbers.{refused_with};
-ghost use Rattle.sender.specs.Numbering.{number_refusal, Inside, Carries, last, EachOnce};
+ghost use Rattle.sender.specs.Numbering.{number_refusal, InsideShape, Carries, last_frame, EachOnce};
 
 use layout::shape::Shape;
 use refusal::Refusal;
 
 /// How many frames a transmission has: that of its shape, numbered 0, and one for each packet.
 pub fn frames(shape: &Shape) -> usize
-    ensures value { result ≡ last shape.now + 1 }
+    ensures value { result ≡ last_frame shape.now + 1 }
     ensures bound { result ≤ 65473 }
 {
     shape.blocks() * shape.positions() + 1
@@ -18,7 +18,7 @@ pub fn frames(shape: &Shape) -> usize
 pub fn place(shape: &Shape, frame: usize) -> Result<(usize, usize), Refusal>
     ensures answer { refused_with result ≡ number_refusal shape.now frame }
     ensures value { IfOk result (Carries shape.now frame) }
-    ensures inside { IfOk result (Inside shape.now) }
+    ensures inside { IfOk result (InsideShape shape.now) }
     ensures each { EachOnce shape.now }
 {
     let blocks = shape.blocks();

@@ -1,5 +1,5 @@
 use Rattle.std.proofs.Common.{◌≡◌, length, sym, ap, ◌∙◌, rules, one-mul}
-use Rattle.sender.specs.Numbering.{block_of, position_of}
+use Rattle.sender.specs.Numbering.{frame_block, frame_position}
 use Rattle.history.specs.declared.call.Call.TheVariants.{Fetch}
 use Rattle.joint.specs.Asked.{AsksFetch}
 use Rattle.joint.proofs.Asking.{at_each_push}
@@ -16,7 +16,7 @@ loop-number-preserved c =
     record {
       number = search rules;
       each = rw c.in_ok-push.ensures.items (at_each_push (AsksFetch c.args.shape.now) c.loop-number.entries.items e v.each (record {
-        call = c.new.ensures.call ∙ ap (λ b. Fetch b c.in_ok-block.position) at.0 ∙ ap (Fetch (block_of s n)) at.1 ∙ ap (λ n. Fetch (block_of s n) (position_of s n)) (sym v.number);
+        call = c.new.ensures.call ∙ ap (λ b. Fetch b c.in_ok-block.position) at.0 ∙ ap (Fetch (frame_block s n)) at.1 ∙ ap (λ n. Fetch (frame_block s n) (frame_position s n)) (sym v.number);
         right = ap (λ r. length r.items) c.new.ensures.run ∙ long ∙ c.packet.ensures.value ∙ sym (one-mul _);
       }));
     }
