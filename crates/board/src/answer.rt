@@ -1,14 +1,16 @@
-// What a board says to a call.
+//! What a board says to a call.
 use receiver::{Taken, Whole};
 use refusal::Refusal;
 use std::alloc::AllocError;
 use std::fmt;
 
+/// An answer that is no refusal.
 #[derive(Drop)]
 pub enum Answer {
     Taken(Taken),
     Whole(Whole),
     Packet(Vec<u32>),
+    /// How many packets of a block are there.
     Held(usize),
 }
 
@@ -31,7 +33,7 @@ impl fmt::Display for Answer {
     }
 }
 
-// A refusal, by its number and values.
+/// A refusal, by its number and values.
 #[derive(Clone, Copy)]
 pub struct Refused(pub Refusal);
 
@@ -46,7 +48,7 @@ impl fmt::Display for Refused {
     }
 }
 
-// Why a call has no answer.
+/// Why a call has no answer.
 #[derive(Clone, Copy)]
 pub enum Failure {
     Refused(Refused),

@@ -1,8 +1,8 @@
-// The lines of a script: what they ask for.
+//! The lines of a script: what they ask for.
 use std::alloc::{AllocError, AllocFailed, Global};
 use std::fmt;
 
-// Which arithmetic.
+/// Which arithmetic.
 #[derive(Clone, Copy)]
 pub enum Setting {
     Nibble,
@@ -10,6 +10,7 @@ pub enum Setting {
     TabledOctet,
 }
 
+/// Which kind of store. A transposed one has its rows and columns exchanged.
 #[derive(Clone, Copy)]
 pub enum Medium {
     Memory,
@@ -18,13 +19,14 @@ pub enum Medium {
     TransposedNor,
 }
 
-// Which store, and how many words its run has.
+/// Which store, and how many words its run has.
 #[derive(Clone, Copy)]
 pub struct Place {
     pub medium: Medium,
     pub words: usize,
 }
 
+/// A call of the receiver; a length is that of the run which the call is lent.
 #[derive(Drop)]
 pub enum Call {
     Take {
@@ -44,7 +46,7 @@ pub enum Call {
     },
 }
 
-// Why a line is no call.
+/// Why a line is no call.
 #[derive(Clone, Copy)]
 pub enum Error {
     NoArithmetic,
@@ -107,6 +109,7 @@ fn frame(heap: Global, words: &[&str]) -> Result<Vec<u32>, Error> {
 
 // Functions and no `TryFrom`: the words of a line are collected on a heap, which has to be passed.
 impl Setting {
+    /// The arithmetic that a line names.
     pub fn parse(heap: Global, line: &str) -> Result<Setting, Error> {
         let parts: Vec<&str> = line.split_whitespace().collect(heap)?;
         match parts.as_slice() {
@@ -119,6 +122,7 @@ impl Setting {
 }
 
 impl Place {
+    /// The store that a line names.
     pub fn parse(heap: Global, line: &str) -> Result<Place, Error> {
         let parts: Vec<&str> = line.split_whitespace().collect(heap)?;
         let (medium, words) = match *parts.as_slice() {
@@ -134,6 +138,7 @@ impl Place {
 }
 
 impl Call {
+    /// The call that a line asks for.
     pub fn parse(heap: Global, line: &str) -> Result<Call, Error> {
         let parts: Vec<&str> = line.split_whitespace().collect(heap)?;
         match parts.as_slice() {

@@ -1,4 +1,4 @@
-// Calls of one receiver, read from standard input one to a line, and their answers, one to a line.
+//! Calls of one receiver, read from standard input one to a line, and their answers, one to a line.
 #![tactic(auto)]
 
 mod answer;

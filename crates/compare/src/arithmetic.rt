@@ -1,4 +1,4 @@
-// The three arithmetics, by name.
+//! The three arithmetics, by name.
 use crate::reply::Answer;
 use crate::words::Error;
 use field::Arithmetic;
@@ -8,12 +8,12 @@ use field::stepped::SteppedOctet;
 use layout::shape::{Dimensions, Shape};
 use refusal::Refusal;
 
-// A call of the library that any arithmetic can make.
+/// A call of the library that any arithmetic can make.
 pub trait Call {
     fn make<F: Arithmetic>(&mut self) -> Result<Answer, Refusal>;
 }
 
-// Which arithmetic.
+/// Which arithmetic.
 #[derive(Clone, Copy)]
 pub enum Setting {
     Nibble,
@@ -23,6 +23,7 @@ pub enum Setting {
 
 // Each arm has an arithmetic of another type.
 impl Setting {
+    /// The arithmetic of a name.
     pub fn parse(text: &str) -> Result<Setting, Error> {
         match text {
             "nibble" => Ok(Setting::Nibble),
@@ -32,6 +33,7 @@ impl Setting {
         }
     }
 
+    /// Makes a call over the arithmetic.
     pub fn make<C: Call>(self, call: &mut C) -> Result<Answer, Refusal> {
         match self {
             Setting::Nibble => call.make::<Nibble>(),
@@ -40,6 +42,7 @@ impl Setting {
         }
     }
 
+    /// A shape for the arithmetic.
     pub fn shape(self, dimensions: Dimensions) -> Result<Shape, Refusal> {
         match self {
             Setting::Nibble => Shape::new::<Nibble>(dimensions),

@@ -1,4 +1,4 @@
-// The cases by name.
+//! The cases by name.
 mod blocks;
 mod fields;
 mod frames;
@@ -8,7 +8,7 @@ mod transmissions;
 use crate::words::{Error, Words};
 use std::alloc::Global;
 
-// Reads the arguments of a case, makes its call, and writes what it gives.
+/// Reads the arguments of a case, makes its call, and writes what it gives.
 pub fn result(heap: Global, name: &str, arguments: &str) -> Result<String, Error> {
     let words = Words::new(heap, arguments);
     match name {

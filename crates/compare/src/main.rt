@@ -1,4 +1,4 @@
-// Cases with the results that they must have, read from standard input one to a line, compared with the library's.
+//! Cases with the results that they must have, read from standard input one to a line, compared with the library's.
 #![tactic(auto)]
 
 ghost use Rattle.std.specs.Prelude.{◌≤◌, ◌↔◌, IsTrue, OnOk};

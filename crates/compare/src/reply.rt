@@ -1,9 +1,9 @@
-// Results as they stand in a case.
+//! Results as they stand in a case.
 use layout::shape::Dimensions;
 use refusal::Refusal;
 use std::fmt;
 
-// What a call answers that is not refused.
+/// What a call answers that is not refused.
 #[derive(Clone, Copy)]
 pub enum Answer {
     Done,
@@ -11,9 +11,9 @@ pub enum Answer {
     Width(u32),
     Element(u32),
     Shape(Dimensions),
-    // The block and the position that a frame has.
+    /// The block and the position that a frame has.
     Packet { block: usize, position: usize },
-    // Those that a number of a frame stands for.
+    /// Those that a number of a frame stands for.
     Place { block: usize, position: usize },
 }
 
@@ -40,11 +40,12 @@ impl fmt::Display for Answer {
     }
 }
 
-// What a call answers, or the number and the values of its refusal.
+/// What a call answers, or the number and the values of its refusal.
 #[derive(Clone, Copy)]
 pub struct Reply(pub Result<Answer, Refusal>);
 
 impl Reply {
+    /// Of a call that answers no more than that it is done.
     pub fn done(outcome: Result<(), Refusal>) -> Reply {
         Reply(outcome.map(|()| Answer::Done))
     }
@@ -68,7 +69,7 @@ impl fmt::Display for Reply {
     }
 }
 
-// A run of words in brackets.
+/// A run of words in brackets.
 #[derive(Clone, Copy)]
 pub struct Run<'a>(pub &'a [u32]);
 

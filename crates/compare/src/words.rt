@@ -1,4 +1,4 @@
-// The arguments of a case, word by word.
+//! The arguments of a case, word by word.
 use crate::arithmetic::Setting;
 use layout::losses::LossList;
 use layout::shape::{Dimensions, Shape};
@@ -8,7 +8,7 @@ use std::fmt;
 use std::str::SplitWhitespace;
 use store::slots::{Format, Slot};
 
-// Why a line is no case.
+/// Why a line is no case.
 #[derive(Clone, Copy)]
 pub enum Error {
     NoText,
@@ -22,7 +22,7 @@ pub enum Error {
     NoList,
     TooFewArguments,
     TooManyArguments,
-    // Of a shape or a loss list that the case builds on.
+    /// Of a shape or a loss list that the case builds on.
     Refused(Refusal),
     NoMemory,
 }
@@ -78,7 +78,7 @@ fn word(text: &str) -> Result<u32, Error> {
     digits::word(text).ok_or(Error::NoWord)
 }
 
-// The words that are still to be read. Each is read as what the call wants in its place.
+/// The words that are still to be read. Each is read as what the call wants in its place.
 #[derive(Drop)]
 pub struct Words<'a> {
     pub heap: Global,
@@ -119,7 +119,7 @@ impl<'a> Words<'a> {
         })
     }
 
-    // The arithmetic that a shape is made for, and its dimensions.
+    /// The arithmetic that a shape is made for, and its dimensions.
     pub fn shape(&mut self) -> Result<Shape, Error> {
         let arithmetic = self.arithmetic()?;
         Ok(arithmetic.shape(self.dimensions()?)?)
@@ -170,14 +170,14 @@ impl<'a> Words<'a> {
         self.list("{", "}", number)
     }
 
-    // A shape, and a loss list that it accepts.
+    /// A shape, and a loss list that it accepts.
     pub fn losses(&mut self) -> Result<LossList, Error> {
         let shape = self.shape()?;
         let positions = self.positions()?;
         Ok(LossList::new(&shape, &positions)?)
     }
 
-    // Nothing stands behind the arguments.
+    /// Nothing stands behind the arguments.
     pub fn end(&mut self) -> Result<(), Error> {
         match self.rest.next() {
             None => Ok(()),

@@ -1,6 +1,12 @@
 //! The two ways in which the programs read digits: a number in decimal, and a word in hexadecimal.
 //!
 //! A line says a number or a word in these ways alone: std's `parse` takes a sign too, and `from_str_radix` digits in upper case.
+//!
+//! ```
+//! assert_eq!(rt; number("17"), Some(17));
+//! assert_eq!(rt; word("0000001d"), Some(0x1D));
+//! assert_eq!(rt; word("1D"), None);
+//! ```
 #![tactic(auto)]
 
 #[cfg(test)]

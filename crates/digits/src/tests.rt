@@ -1,3 +1,4 @@
+//! Texts that are numbers and words, and texts that are none.
 use crate::{number, word};
 
 #[test]

@@ -1,4 +1,4 @@
-// The field of 256 elements with α^8 = α^4 + α^3 + α^2 + 1, by tables.
+//! The field of 256 elements with α^8 = α^4 + α^3 + α^2 + 1, by tables.
 ghost use Rattle.field.specs.Fields.{octet};
 
 use crate::tabled::Tabled;
@@ -6,7 +6,7 @@ use crate::tables::ByteTables;
 
 const WIDTH: u32 = 8;
 
-// α^i at place i
+// α^i at place i.
 const POWERS: &[u8; 255] = b"\
     \x01\x02\x04\x08\x10\x20\x40\x80\x1d\x3a\x74\xe8\xcd\x87\x13\x26\
     \x4c\x98\x2d\x5a\xb4\x75\xea\xc9\x8f\x03\x06\x0c\x18\x30\x60\xc0\
@@ -25,7 +25,7 @@ const POWERS: &[u8; 255] = b"\
     \x12\x24\x48\x90\x3d\x7a\xf4\xf5\xf7\xf3\xfb\xeb\xcb\x8b\x0b\x16\
     \x2c\x58\xb0\x7d\xfa\xe9\xcf\x83\x1b\x36\x6c\xd8\xad\x47\x8e";
 
-// i at place α^i
+// i at place α^i.
 const LOGARITHMS: &[u8; 256] = b"\
     \x00\x00\x01\x19\x02\x32\x1a\xc6\x03\xdf\x33\xee\x1b\x68\xc7\x4b\
     \x04\x64\xe0\x0e\x34\x8d\xef\x81\x1c\xc1\x69\xf8\xc8\x08\x4c\x71\
@@ -44,9 +44,11 @@ const LOGARITHMS: &[u8; 256] = b"\
     \xcb\x59\x5f\xb0\x9c\xa9\xa0\x51\x0b\xf5\x16\xeb\x7a\x75\x2c\xd7\
     \x4f\xae\xd5\xe9\xe6\xe7\xad\xe8\x74\xd6\xf4\xea\xa8\x50\x58\xaf";
 
+/// The tables of the octets.
 #[derive(Clone, Copy)]
 pub struct OctetTables;
 
+/// The octets by the tables, which take 511 bytes.
 pub type TabledOctet = Tabled<OctetTables>;
 
 #[tactic(auto, unfolding(galois::specs::Field::double, galois::specs::Tables::powers_from, galois::specs::Tables::powers, galois::specs::Tables::entered, galois::specs::Tables::logarithms))]

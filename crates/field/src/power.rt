@@ -1,10 +1,10 @@
-// Powers over any arithmetic.
+//! Powers over any arithmetic.
 ghost use Rattle.std.specs.Prelude.{◌≡◌, ◌%◌, ◌^◌};
 ghost use Rattle.galois.specs.Field.{power};
 
 use crate::Arithmetic;
 
-// a^exponent, by squaring
+/// The power of the element that `a` stands for, by squaring.
 pub fn raise<F: Arithmetic>(a: u32, exponent: u32) -> u32
     ensures { result ≡ power F.Arithmetic.prod (a % 2 ^ F.Arithmetic.bits) exponent }
 {

@@ -1,4 +1,4 @@
-// The field of 256 elements with α^8 = α^4 + α^3 + α^2 + 1, by shifts and exclusive ors, with no table.
+//! The field of 256 elements with α^8 = α^4 + α^3 + α^2 + 1, by shifts and exclusive ors, with no table.
 ghost use Rattle.std.specs.Prelude.{◌≡◌, ◌%◌, ◌<◌};
 ghost use Rattle.galois.specs.Field.{double, product, inverse};
 ghost use Rattle.galois.proofs.Laws.{laws};
@@ -37,6 +37,7 @@ fn by_steps(a: u32, b: u32) -> u32
     sum
 }
 
+/// The octets without tables. The products are those of [`crate::octet::TabledOctet`] ([`crate::same::same_octets`]).
 #[derive(Clone, Copy)]
 pub struct SteppedOctet;
 

@@ -1,11 +1,11 @@
-// A field by tables of powers and logarithms.
+//! A field by tables of powers and logarithms.
 ghost use Rattle.std.specs.Prelude.{◌≡◌, ℕ, ◌-◌, ◌%◌, ◌^◌, ◌<◌};
 ghost use Rattle.galois.specs.Field.{Primitive, steps, product, inverse};
 ghost use Rattle.galois.proofs.Laws.{laws};
 
 use crate::Arithmetic;
 
-// The powers of α and their exponents, in a field of 2^bits elements.
+/// The powers of α and their exponents, in a field of 2^bits elements.
 pub trait Logarithms {
     ghost bits: { ℕ };
 
@@ -14,11 +14,11 @@ pub trait Logarithms {
     fn width() -> u32
         ensures { result ≡ bits };
 
-    // α^exponent
+    /// α^exponent, for any exponent.
     fn power(exponent: u32) -> u32
         ensures { result ≡ steps bits poly exponent 1 };
 
-    // The exponent of α at the low bits of `a`, and 0 where they are 0.
+    /// The exponent of α at the low bits of `a`, and 0 where they are 0.
     fn logarithm(a: u32) -> u32
         ensures below { result < 2 ^ bits - 1 }
         ensures exponent { 0 < a % 2 ^ bits → steps bits poly result 1 ≡ a % 2 ^ bits }
@@ -27,6 +27,7 @@ pub trait Logarithms {
     ghost generates: { Primitive bits poly };
 }
 
+/// The arithmetic by such powers and logarithms.
 #[derive(Clone, Copy)]
 pub struct Tabled<T> {
     pub tables: T,

@@ -1,11 +1,11 @@
-// Powers and logarithms looked up in tables of bytes, for fields of at most 256 elements.
+//! Powers and logarithms looked up in tables of bytes, for fields of at most 256 elements.
 ghost use Rattle.std.specs.Prelude.{◌≡◌, ℕ};
 ghost use Rattle.galois.specs.Field.{Primitive};
 ghost use Rattle.galois.specs.Tables.{powers, logarithms};
 
 use crate::tabled::Logarithms;
 
-// Both tables of a field of 2^bits elements.
+/// Both tables of a field of 2^bits elements.
 pub trait ByteTables {
     ghost bits: { ℕ };
 
@@ -14,11 +14,11 @@ pub trait ByteTables {
     fn width() -> u32
         ensures { result ≡ bits };
 
-    // α^i at place i
+    /// α^i at place i, for i below 2^bits - 1.
     fn powers() -> &'static [u8]
         ensures { result.now ≡ powers bits poly };
 
-    // i at place α^i, and 0 at place 0
+    /// i at place α^i, and 0 at place 0.
     fn logarithms() -> &'static [u8]
         ensures { result.now ≡ logarithms bits poly };
 

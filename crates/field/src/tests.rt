@@ -1,3 +1,4 @@
+//! The three arithmetics at single elements, and the octets against each other.
 use crate::Arithmetic;
 use crate::alpha::*;
 use crate::nibble::*;

@@ -1,4 +1,5 @@
-// Numbers in the bits of a word. The casts lose nothing, which is proved; `try_from` would answer a refusal that cannot come.
+//! Numbers in the bits of a word.
+// The casts lose nothing, which is proved; `try_from` would answer a refusal that cannot come.
 ghost use Rattle.std.specs.Prelude.{◌+◌, ◌<◌, ◌≤◌};
 
 // `count` bits, the lowest of them the bit `low`.

@@ -1,7 +1,17 @@
-// Frames of words, as they go over a link. The top four bits of a header word are its kind; the unused bits are zero.
-//   a shape frame: kind 1, rows in bits 27 to 24, positions in 23 to 12, sources in 11 to 0;
-//                  then kind 2, blocks in bits 27 to 16, words of a row in 7 to 0
-//   a packet frame: kind 3, block in bits 23 to 12, position in 11 to 0; then its payload, which is not judged here
+//! Frames of 32-bit words, as they go over a link: a frame is written to its words and read from them.
+//!
+//! The top four bits of a header word are its kind; the unused bits are zero.
+//! - a shape frame: kind 1, rows in bits 27 to 24, positions in 23 to 12, sources in 11 to 0;
+//!   then kind 2, blocks in bits 27 to 16, words of a row in 7 to 0
+//! - a packet frame: kind 3, block in bits 23 to 12, position in 11 to 0; then its payload
+//!
+//! ```
+//! let frame = Frame::Packet { block: 0, position: 2, payload: &[7, 8] };
+//! let mut run = [0; 3];
+//! frame.write(&mut run)?;
+//! assert_eq!(rt; run, [0x30000002, 7, 8]);
+//! assert_eq!(rt; Frame::try_from(&run[..]), Ok(frame));
+//! ```
 #![tactic(auto)]
 
 ghost use Rattle.std.specs.Prelude.{◌≡◌, ◌<◌, length};
@@ -48,9 +58,11 @@ const BLOCK: BitField = BitField { low: 12, count: 12 };
 
 const POSITION: BitField = BitField { low: 0, count: 12 };
 
+/// What a frame says. Its numbers are not judged here, beyond that they fit their bits, nor is the payload.
 #[derive(Clone, Copy, PartialEq, Eq, Debug)]
 pub enum Frame<'a> {
     Shape(Dimensions),
+    /// The packet at a position of a block.
     Packet {
         block: usize,
         position: usize,
@@ -58,7 +70,7 @@ pub enum Frame<'a> {
     },
 }
 
-// The frame that has exactly these words; a packet's payload is a part of them.
+/// The frame that has exactly these words, of which a packet's payload is a part. Refused as `BadFrame` if there is none.
 impl<'a> TryFrom<&'a [u32]> for Frame<'a> {
     type Error = Refusal;
 
@@ -93,7 +105,7 @@ impl<'a> TryFrom<&'a [u32]> for Frame<'a> {
 
 // Each contract names the frame's content, since an enum has no model.
 impl Frame<'_> {
-    // How many words the frame has.
+    /// How many words the frame has: 2 for a shape, and one more than its payload for a packet.
     pub fn length(&self) -> usize
         ensures { result ≡ length (frame_words (content_of self.now)) }
     {
@@ -123,8 +135,9 @@ impl Frame<'_> {
         }
     }
 
-    // Writes the frame into a run of its length. A number that does not fit its bits is refused before a run of another
-    // length, and a refusal leaves the run.
+    /// Writes the frame into a run of its length.
+    ///
+    /// Refused as `BadFrame` where a number does not fit its bits, then as `WrongRun` at place 0; a refusal leaves the run.
     pub fn write(&self, run: &mut [u32]) -> Result<(), Refusal>
         ensures answer { refused_with result ≡ write_refusal (content_of self.now) run.old }
         ensures after { run.new ≡ after_write result (content_of self.now) run.old }

@@ -1,3 +1,4 @@
+//! Frames there and back, and words that are none.
 use crate::*;
 use layout::shape::Dimensions;
 

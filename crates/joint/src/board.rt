@@ -54,6 +54,7 @@ fn gave_all(fetches: &[Entry], sent: Transmission<'_>) -> Result<bool, Refusal>
 }
 
 impl Board {
+    /// A board with all that it will be asked; it has answered nothing yet.
     pub fn new(
         heap: Global,
         name: &'static str,

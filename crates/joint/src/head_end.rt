@@ -1,4 +1,4 @@
-// The head-end: the words of an image with their parity, and the frames that carry both.
+//! The head-end: the words of an image with their parity, and the frames that carry both.
 ghost use Rattle.std.specs.Prelude.{◌≡◌, ◌+◌, ◌*◌, ◌≤◌, vec_len, slice_index, IfOk};
 ghost use Rattle.std.specs.Int.{w32, from_be_bytes};
 ghost use Rattle.layout.specs.Sizes.{packet_of};
@@ -62,7 +62,9 @@ fn block_bytes(shape: &Shape) -> usize
     4 * shape.sources() * shape.packet()
 }
 
-// The shape for an image of so many bytes, in blocks of these dimensions.
+/// The shape for an image of so many bytes, in blocks of these dimensions, of which the number of blocks is not read.
+///
+/// Refused as `BadSize` for no bytes, and for more than 64 blocks hold.
 pub fn shape_for(block: Dimensions, length: usize) -> Result<Shape, Refusal>
     ensures { IfOk result (ShapeFor block length) }
 {
@@ -73,7 +75,7 @@ pub fn shape_for(block: Dimensions, length: usize) -> Result<Shape, Refusal>
     })
 }
 
-// An image with the parity of all its blocks.
+/// An image with the parity of all its blocks.
 #[derive(Drop)]
 pub struct HeadEnd {
     shape: Shape,
@@ -82,6 +84,7 @@ pub struct HeadEnd {
 }
 
 impl HeadEnd {
+    /// The head-end for an image of bytes, with zeros behind the last; the bytes that no block holds are left out.
     pub fn new(heap: Global, shape: Shape, bytes: &[u8]) -> anyhow::Result<HeadEnd>
         ensures shape { IfOk result (λ made. made.shape ≡ shape) }
         ensures image { IfOk result (HoldsImage bytes.now) }
@@ -113,7 +116,7 @@ impl HeadEnd {
         }
     }
 
-    // The words of the frame of a number: the shape is number 0.
+    /// The words of the frame of a number: the shape is number 0. The frame of a packet is one word longer than the packet.
     pub fn frame(&self, heap: Global, number: usize) -> anyhow::Result<Vec<u32>>
         ensures { IfOk result (λ words. parse words.items ≡ sent (sends self.now) number) }
     {

@@ -1,4 +1,4 @@
-// A link to a board, which loses about one packet in eight, in an order fixed by its seed.
+//! A link to a board, which loses about one packet in eight, in an order fixed by its seed.
 ghost use Rattle.std.specs.Prelude.{◌≡◌, ◌≤◌, IfOk, false};
 ghost use Rattle.layout.specs.Sizes.{parity_of};
 
@@ -38,7 +38,7 @@ impl Random {
     }
 }
 
-// What a link loses of each block of a transmission.
+/// What a link loses of each block of a transmission.
 #[derive(Drop)]
 pub struct Link {
     shape: Shape,
@@ -46,7 +46,7 @@ pub struct Link {
 }
 
 impl Link {
-    // The losses are drawn block by block.
+    /// Draws the losses, block by block. From a seed of 0 come only zeros, so every block would lose as many packets as can be restored.
     pub fn new(heap: Global, shape: Shape, seed: u32) -> anyhow::Result<Link> {
         let mut random = Random { last: seed };
         let mut losses = Vec::with_capacity(heap, shape.blocks())?;
@@ -56,7 +56,7 @@ impl Link {
         Ok(Link { shape, losses })
     }
 
-    // The positions that are lost of a block.
+    /// The positions that are lost of a block.
     pub fn lost(&self, block: usize) -> &[usize] {
         match self.losses.get(block) {
             Some(losses) => losses.positions(),
@@ -64,7 +64,7 @@ impl Link {
         }
     }
 
-    // Whether the frame of a number is lost; the shape frame never is.
+    /// Whether the frame of a number is lost; the shape frame never is.
     pub fn loses(&self, number: usize) -> Result<bool, Refusal>
         ensures { number ≡ 0 → result ≡ Ok false }
     {

@@ -1,5 +1,5 @@
-// Sends a firmware image from a head-end to two boards of different make, over links that lose packets, and tells whether
-// both end with the image that was sent.
+//! Sends a firmware image from a head-end to two boards of different make, over links that lose packets, and tells whether
+//! both end with the image that was sent.
 #![tactic(auto)]
 
 ghost use Rattle.std.specs.Prelude.{◌↔◌, IsTrue, IfOk};

@@ -1,4 +1,4 @@
-// The frames of a transmission.
+//! The frames of a transmission.
 ghost use Rattle.std.specs.Prelude.{◌≡◌, length, IfOk};
 ghost use Rattle.refusal.specs.Numbers.{refused_with};
 ghost use Rattle.layout.specs.Sizes.{packet_of};
@@ -31,7 +31,10 @@ impl<'a> Transmission<'a> {
         }
     }
 
-    // The words that a packet frame carries behind its header.
+    /// The words that a packet frame carries behind its header: a part of the parity words or of the image.
+    ///
+    /// Refused as `OutsideShape` for a frame that carries no packet, which frame 0 does not, then as `WrongRun`, at place 0
+    /// for the image and 1 for the parity words.
     pub fn payload(&self, frame: usize) -> Result<&'a [u32], Refusal>
         ensures answer { refused_with result ≡ payload_refusal (sending_of self.now) frame }
         ensures value { IfOk result (λ run. run.now ≡ payload_of (sending_of self.now) frame) }
@@ -59,7 +62,11 @@ impl<'a> Transmission<'a> {
         })
     }
 
-    // Fills a run of the frame's length with the words of the frame.
+    /// Fills a run of the frame's length with the words of the frame: 2 for frame 0, and for any other one more than a packet
+    /// has.
+    ///
+    /// Refused as `OutsideShape` above the last frame, then as `WrongRun`, at place 0 for the image, 1 for the parity words and
+    /// 2 for the run, which stays as it was.
     pub fn frame(&self, run: &mut [u32], frame: usize) -> Result<(), Refusal>
         ensures answer { refused_with result ≡ frame_refusal (sending_of self.now) run.old frame }
         ensures after { run.new ≡ after_frame result (sending_of self.now) run.old frame }

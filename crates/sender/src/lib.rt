@@ -1,4 +1,18 @@
-// The head-end's side of a transmission: parity for an image, and the frames that carry both.
+//! The head-end's side of a transmission: parity for an image, and the frames that carry both.
+//!
+//! [`prepare::prepare`] fills the parity words of all blocks. A [`Transmission`] gives the words of any frame, number 0 being
+//! the shape and every other one a packet; [`numbering`] says how many frames there are, and what each carries.
+//!
+//! ```
+//! let mut parity = vec![in heap; 0; shape.blocks() * shape.parity() * shape.packet()]?;
+//! prepare::<TabledOctet>(&shape, &image, &mut parity)?;
+//! let sent = Transmission { shape: &shape, image: &image, parity: &parity };
+//! let mut run = vec![in heap; 0; 1 + shape.packet()]?;
+//! sent.frame(&mut run[..2], 0)?; // the shape
+//! for number in 1..frames(&shape) {
+//!     sent.frame(&mut run, number)?;
+//! }
+//! ```
 #![tactic(auto)]
 
 ghost use Rattle.std.specs.Prelude.{◌≡◌};
@@ -15,12 +29,14 @@ pub mod prepare;
 #[cfg(test)]
 mod tests;
 
-// An image, block after block, with the parity words of its blocks. Each call looks at the runs again, after the number
-// of the frame.
+/// What a head-end sends: an image with the parity of its blocks. Each call looks at the lengths of the runs again, after the
+/// number of the frame.
 #[derive(Clone, Copy)]
 pub struct Transmission<'a> {
     pub shape: &'a Shape,
+    /// The source packets of every block, block after block, each in the order of its positions.
     pub image: &'a [u32],
+    /// The parity packets of every block, likewise.
     pub parity: &'a [u32],
 }
 

@@ -1,4 +1,4 @@
-// Which packet a frame carries.
+//! Which packet a frame carries.
 ghost use Rattle.std.specs.Prelude.{◌≡◌, ◌+◌, ◌≤◌, IfOk};
 ghost use Rattle.refusal.specs.Numbers.{refused_with};
 ghost use Rattle.sender.specs.Numbering.{number_refusal, InsideShape, Carries, last_frame, EachOnce};
@@ -14,7 +14,10 @@ pub fn frames(shape: &Shape) -> usize
     shape.blocks() * shape.positions() + 1
 }
 
-// The block and the position of a packet frame, from frame 1 on: neighbouring frames are of different blocks.
+/// The block and the position of a packet frame, from frame 1 on: the blocks take turns, so that frames lost one after another
+/// are of different blocks.
+///
+/// Refused as `OutsideShape` for a frame that carries no packet.
 pub fn place(shape: &Shape, frame: usize) -> Result<(usize, usize), Refusal>
     ensures answer { refused_with result ≡ number_refusal shape.now frame }
     ensures value { IfOk result (Carries shape.now frame) }

@@ -1,4 +1,4 @@
-// The parity of a whole image.
+//! The parity of a whole image.
 ghost use Rattle.std.specs.Prelude.{◌≡◌, ◌*◌, ◌≤◌, OnOk, OnErr};
 ghost use Rattle.refusal.specs.Numbers.{refused_with};
 ghost use Rattle.layout.specs.Sizes.{packet_of};
@@ -19,7 +19,10 @@ fn words(shape: &Shape, packets: usize) -> usize
     packets * shape.packet()
 }
 
-// Fills the parity words of every block from the image.
+/// Fills the parity words of every block from the image: the runs are those of a [`Transmission`].
+///
+/// Refused as `OtherWidth` for the shape of another arithmetic, then as `WrongRun`, at place 0 for the image and 1 for the
+/// parity words.
 pub fn prepare<F: Arithmetic>(
     shape: &Shape,
     image: &[u32],

@@ -1,3 +1,4 @@
+//! A transmission of one or two blocks of nibbles, short enough to write out.
 use crate::Transmission;
 use crate::numbering::place;
 use crate::prepare::prepare;

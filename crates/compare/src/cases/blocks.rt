@@ -1,4 +1,4 @@
-// Shapes, loss lists, and the calls over one block.
+//! Shapes, loss lists, and the calls over one block.
 use crate::arithmetic::{Call, Setting};
 use crate::reply::{Answer, Reply, Run};
 use crate::words::{Error, Words};

@@ -1,4 +1,4 @@
-// Calls of an arithmetic.
+//! Calls of an arithmetic.
 use crate::arithmetic::{Call, Setting};
 use crate::reply::{Answer, Reply};
 use crate::words::{Error, Words};

@@ -1,4 +1,4 @@
-// Reading and writing frames.
+//! Reading and writing frames.
 use crate::reply::{Answer, Reply, Run};
 use crate::words::{Error, Words};
 use frame::Frame;

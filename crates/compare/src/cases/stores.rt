@@ -1,4 +1,4 @@
-// Calls of one store in a row.
+//! Calls of one store in a row.
 use crate::reply::{Answer, Reply, Run};
 use crate::words::{Error, Words};
 use std::alloc::Global;
@@ -78,7 +78,7 @@ fn serve<S: SlotStore + Drop>(heap: Global, mut store: S, calls: Calls) -> Resul
     Ok(results)
 }
 
-// The results of the calls, and the words of the run behind them.
+/// The results of the calls, and the words of the run behind them.
 pub fn store(heap: Global, arguments: &str) -> Result<String, Error> {
     let mut calls = arguments.split(" ; ");
     let mut head = Words::new(heap, calls.next().unwrap_or(""));

@@ -1,4 +1,4 @@
-// Calls of the sender.
+//! Calls of the sender.
 use crate::arithmetic::Call;
 use crate::reply::{Answer, Reply, Run};
 use crate::words::{Error, Words};
