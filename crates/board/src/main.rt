@@ -7,10 +7,9 @@ mod call;
 use answer::{Answer, Failure};
 use call::{Call, Error, Medium, Place, Setting};
 use field::Arithmetic;
-use field::nibble::NibbleTables;
-use field::octet::OctetTables;
+use field::nibble::Nibble;
+use field::octet::TabledOctet;
 use field::stepped::SteppedOctet;
-use field::tabled::Tabled;
 use layout::shape::LONGEST;
 use receiver::Receiver;
 use std::alloc::{AllocError, Global};
@@ -68,13 +67,12 @@ fn respond<F: Arithmetic, S: SlotStore>(
 }
 
 // Answers every call that is still to come.
-fn serve<F: Arithmetic + Drop, S: SlotStore + Drop>(
+fn serve<F: Arithmetic, S: SlotStore + Drop>(
     rt: &HostRuntime,
-    arithmetic: F,
     store: S,
     input: Input,
 ) -> anyhow::Result<()> {
-    let mut receiver = Receiver::new(arithmetic, store);
+    let mut receiver = Receiver::<F, _>::new(store);
     for line in input {
         let line = line?;
         let Some(text) = said(line.as_str()) else {
@@ -93,28 +91,17 @@ fn serve<F: Arithmetic + Drop, S: SlotStore + Drop>(
 }
 
 // Serves over the store that is asked for. Each arm has a store of another type, so no table of stores will do.
-fn over<F: Arithmetic + Drop>(
-    rt: &HostRuntime,
-    arithmetic: F,
-    place: Place,
-    input: Input,
-) -> anyhow::Result<()> {
+fn over<F: Arithmetic>(rt: &HostRuntime, place: Place, input: Input) -> anyhow::Result<()> {
     let mut words = vec![in rt.alloc(); 0; place.words]?;
     match place.medium {
-        Medium::Memory => serve(rt, arithmetic, MemoryStore::new(&mut words), input),
-        Medium::Nor => serve(rt, arithmetic, NorStore::new(&mut words), input),
-        Medium::TransposedMemory => serve(
+        Medium::Memory => serve::<F, _>(rt, MemoryStore::new(&mut words), input),
+        Medium::Nor => serve::<F, _>(rt, NorStore::new(&mut words), input),
+        Medium::TransposedMemory => serve::<F, _>(
             rt,
-            arithmetic,
             Transposed(MemoryStore::new(&mut words)),
             input,
         ),
-        Medium::TransposedNor => serve(
-            rt,
-            arithmetic,
-            Transposed(NorStore::new(&mut words)),
-            input,
-        ),
+        Medium::TransposedNor => serve::<F, _>(rt, Transposed(NorStore::new(&mut words)), input),
     }
 }
 
@@ -149,23 +136,9 @@ fn run(rt: &HostRuntime) -> anyhow::Result<()> {
     };
     // Each arm has an arithmetic of another type.
     match setting {
-        Setting::Nibble => over(
-            rt,
-            Tabled {
-                tables: NibbleTables,
-            },
-            place,
-            input,
-        ),
-        Setting::SteppedOctet => over(rt, SteppedOctet, place, input),
-        Setting::TabledOctet => over(
-            rt,
-            Tabled {
-                tables: OctetTables,
-            },
-            place,
-            input,
-        ),
+        Setting::Nibble => over::<Nibble>(rt, place, input),
+        Setting::SteppedOctet => over::<SteppedOctet>(rt, place, input),
+        Setting::TabledOctet => over::<TabledOctet>(rt, place, input),
     }
 }
 

@@ -12,6 +12,7 @@ use Rattle.layout.proofs.Parts.{part_length}
 use Rattle.layout.specs.Checks.{width_refusal}
 use Rattle.layout.proofs.Passes.{pass_both, run_ok, run_passes}
 use Rattle.refusal.specs.Numbers.{or_else}
+use Rattle.layout.specs.Blocks.{code_of}
 use Rattle.code.specs.Calls.{Encoded, encode_refusal}
 use Rattle.code.proofs.Chunks.{ChunkTurn, chunk_turn}
 use Rattle.sender.specs.Prepared.{part, Prepared, runs_refusal}
@@ -57,14 +58,14 @@ module _ (s : Shape) where
       record { source = turn; end = part_ends n s.blocks w refl of (parts_long (parity_of s) parity fits) turn.lt }
 
   -- its encoding is not refused
-  pub encodes : (bits : ℕ) (image parity : List ℕ) (n w : ℕ) (x next : List ℕ) → None ≡ width_refusal bits s → w ≡ parity_of s * packet_of s
-      → BlockTurn image parity n w x next → encode_refusal bits s x (part w parity n) ≡ None
-  encodes bits image parity n w x next width of turn =
-      pass_both _ _ (sym width) (pass_both _ _ (run_ok s s.sources x 0 turn.source.long) (run_ok s (parity_of s) _ 1 (part_length parity n w turn.end ∙ of)))
+  pub encodes : (image parity : List ℕ) (n w : ℕ) (x next : List ℕ) → w ≡ parity_of s * packet_of s
+      → BlockTurn image parity n w x next → encode_refusal s x (part w parity n) ≡ None
+  encodes image parity n w x next of turn =
+      pass_both _ _ (run_ok s s.sources x 0 turn.source.long) (run_ok s (parity_of s) _ 1 (part_length parity n w turn.end ∙ of))
 
   -- the parity of one block more
   pub prepared_more : (prod : ℕ → ℕ → ℕ) (image : List ℕ) (n w k : ℕ) (before y : List ℕ) → w ≡ parity_of s * packet_of s → k ≡ w → n * w + w ≤ length before → length y ≡ w
-      → Encoded s prod (part (s.sources * packet_of s) image n) y → Prepared s prod image before n → Prepared s prod image (put_mid (n * w) k before y) (n + 1)
+      → Encoded (code_of s prod) (part (s.sources * packet_of s) image n) y → Prepared s prod image before n → Prepared s prod image (put_mid (n * w) k before y) (n + 1)
   prepared_more prod image n w k before y of size within long encoded done b lt = elim (ℕ_discrete b n) [
     | yes same ↦ rw (same, ← of, part_here w n k before y size within long) encoded
     | no other ↦ rw (← of, part_before w n k before y size within long b (omega arith), of) (done b (omega arith))

@@ -4,6 +4,7 @@ use Rattle.std.specs.List.{between}
 use Rattle.refusal.specs.Numbers.{or_else}
 use Rattle.layout.specs.declared.shape.Shape.{Shape}
 use Rattle.layout.specs.Sizes.{parity_of, packet_of, Packets}
+use Rattle.layout.specs.Blocks.{code_of}
 use Rattle.layout.specs.Checks.{width_refusal, run_refusal}
 use Rattle.code.specs.Calls.{Encoded}
 
@@ -22,7 +23,7 @@ prepare_refusal bits s image parity = or_else (width_refusal bits s) (runs_refus
 -- the first n blocks have the parity that makes them codewords
 abbrev pub Prepared : Shape → (ℕ → ℕ → ℕ) → List ℕ → List ℕ → ℕ → Type 0
 Prepared s prod image parity n =
-    (b : ℕ) → b < n → Encoded s prod (part (s.sources * packet_of s) image b) (part (parity_of s * packet_of s) parity b)
+    (b : ℕ) → b < n → Encoded (code_of s prod) (part (s.sources * packet_of s) image b) (part (parity_of s * packet_of s) parity b)
 
 -- all blocks have
 abbrev pub AllPrepared : Shape → (ℕ → ℕ → ℕ) → List ℕ → List ℕ → Type 0

@@ -5,7 +5,7 @@ ghost use Rattle.layout.specs.Sizes.{packet_of};
 ghost use Rattle.sender.specs.Prepared.{prepare_refusal, AllPrepared};
 
 use crate::Transmission;
-use code::block::encode;
+use code::code::Code;
 use field::Arithmetic;
 use layout::shape::Shape;
 use refusal::Refusal;
@@ -33,7 +33,7 @@ pub fn prepare<F: Arithmetic>(
     ensures parity { OnOk result (AllPrepared shape.now F.Arithmetic.prod image.now parity.new) }
     ensures kept { OnErr result (parity.new ≡ parity.old) }
 {
-    shape.check_width::<F>()?;
+    let code = Code::<F>::new(shape)?;
     Transmission {
         shape,
         image,
@@ -44,11 +44,7 @@ pub fn prepare<F: Arithmetic>(
     let sources = image.chunks(words(shape, shape.sources()));
     for (block, source) in sources.enumerate() {
         // A part by its number: of what a loop over `chunks_mut` leaves, a proof knows the length alone.
-        encode::<F>(
-            shape,
-            source,
-            &mut parity[block * part..block * part + part],
-        )?;
+        code.encode(source, &mut parity[block * part..block * part + part])?;
     }
     Ok(())
 }

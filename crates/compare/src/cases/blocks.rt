@@ -2,6 +2,7 @@
 use crate::arithmetic::{Call, Setting};
 use crate::reply::{Answer, Reply, Run};
 use crate::words::{Error, Words};
+use code::code::Code;
 use field::Arithmetic;
 use layout::losses::LossList;
 use layout::shape::Shape;
@@ -54,9 +55,9 @@ impl Call for BlockCall {
             }
             Step::Repair(losses) => code::block::repair::<F>(shape, first, losses, second)?,
             Step::Absorb { position } => {
-                code::sums::absorb::<F>(shape, first, *position, second)?;
+                Code::<F>::new(shape)?.absorb(first, *position, second)?;
             }
-            Step::Rebuild(losses) => code::rebuild::rebuild::<F>(shape, losses, first, second)?,
+            Step::Rebuild(losses) => Code::<F>::new(shape)?.rebuild(losses, first, second)?,
         }
         Ok(Answer::Done)
     }

@@ -38,7 +38,7 @@ loop-block-preserved g c =
       left = turn.source.left;
       prepared = rw here (prepared_more s g.F.Arithmetic.prod c.args.image.now c.in-Some.block _ _ c.loop-block.parity c.encode.new.parity of (omega arith) end
           (c.encode.auto.parity ∙ part_length c.loop-block.parity c.in-Some.block c.words-part.result end)
-          (rw (turn.source.is, here) at c.in_ok-encode.ensures.after) (rw here at v.prepared));
+          (rw (turn.source.is, here, c.in_ok-code.ensures.of) at c.in_ok-encode.ensures.filled) (rw here at v.prepared));
     }
 
 pub returns-in_err-encode-clause-answer : goal.returns-in_err-encode-clause-answer
@@ -49,7 +49,7 @@ returns-in_err-encode-clause-answer g c =
     let (image, parity) = runs_pass s _ _ c.in_ok-check_runs.ensures in
     let of = c.words-part.ensures.value ∙ ap (λ r. r * packet_of s) c.parity.ensures in
     let turn = block_turn s c.args.image.now c.loop-block.parity (length c.loop-block.yielded) _ _ _ _ _ image (c.loop-block.auto.parity ∙ parity) v.size of v.left step.1 in
-    passed _ _ (rw (sym (number ∙ v.count)) at (encodes s g.F.Arithmetic.bits _ _ _ _ _ _ c.in_ok-check_width.ensures of turn)) c.in_err-encode.ensures.answer
+    passed _ _ (rw (sym (number ∙ v.count)) at (encodes s _ _ _ _ _ _ of turn)) (rw c.in_ok-code.ensures.of at c.in_err-encode.ensures.answer)
 
 pub returns-in_err-encode-clause-kept : goal.returns-in_err-encode-clause-kept
 returns-in_err-encode-clause-kept g c =
@@ -59,7 +59,7 @@ returns-in_err-encode-clause-kept g c =
     let (image, parity) = runs_pass s _ _ c.in_ok-check_runs.ensures in
     let of = c.words-part.ensures.value ∙ ap (λ r. r * packet_of s) c.parity.ensures in
     let turn = block_turn s c.args.image.now c.loop-block.parity (length c.loop-block.yielded) _ _ _ _ _ image (c.loop-block.auto.parity ∙ parity) v.size of v.left step.1 in
-    passed _ _ (rw (sym (number ∙ v.count)) at (encodes s g.F.Arithmetic.bits _ _ _ _ _ _ c.in_ok-check_width.ensures of turn)) c.in_err-encode.ensures.answer
+    passed _ _ (rw (sym (number ∙ v.count)) at (encodes s _ _ _ _ _ _ of turn)) (rw c.in_ok-code.ensures.of at c.in_err-encode.ensures.answer)
 
 pub returns-clause-parity : goal.returns-clause-parity
 returns-clause-parity g c =
