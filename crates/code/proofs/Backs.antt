@@ -6,16 +6,15 @@ use lib.Bits.{bit_xor, xor_lt, xor_assoc, xor_self, xor_zero_l}
 use Rattle.galois.specs.Field.{FieldLaws}
 use Rattle.galois.proofs.Powers.{one_lt}
 use Rattle.algebra.specs.Code.{Code, Packet, SamePacket, scaled}
-use Rattle.algebra.specs.Laws.{Xor, Ops, Laws, gap}
+use Rattle.algebra.specs.Laws.{Xor, Ops, gap}
 use Rattle.algebra.specs.Loops.{Sys, Added, Scaled, upd, theta, taking}
-use Rattle.algebra.specs.Packets.{Ok, Nz}
 use Rattle.algebra.specs.Grids.{Grid, grid_xor, grid_ops, rows}
 use Rattle.algebra.proofs.Sums.{sys_right, upd_at, upd_off}
 use Rattle.algebra.proofs.Loops.{taking_step, taken_step, taking_none, found_all, found_first}
 use Rattle.algebra.proofs.Bridge.{same_rows, bridge_scaled}
 use Rattle.layout.specs.Blocks.{block_at}
 use Rattle.code.specs.Solving.{node_at, Solvable, gap_of, entry, Untouched, Copied, SameSolutions, stage_of, found_of}
-use Rattle.code.proofs.Stages.{packet_laws}
+use Rattle.code.proofs.Stages.{laws}
 
 -- the product that the code computes is that of the solver
 pub gap_is : (C : Code) (inv : ℕ → ℕ) (x : ℕ → ℕ) (j k y : ℕ) → gap_of C.product x j k y ≡ gap (grid_ops C inv) x j k y
@@ -47,9 +46,6 @@ module _ (C : Code) (inv : ℕ → ℕ) (x : List ℕ) (t n : ℕ) (z : Packet) 
     pub off : Untouched C t e u
 
 module _ {C : Code} {inv : ℕ → ℕ} {x : List ℕ} {t : ℕ} (v : Solvable C inv x t) where
-  laws : Laws (grid_xor C) (grid_ops C inv) (Ok C.rows) (Nz C.rows)
-  laws = packet_laws C inv v.laws
-
   module _ (n : ℕ) (z : Packet) (pos : 0 < n) (within : n < t) where
     pub cleared_none : (e u : List ℕ) → SamePacket C z (block_at C e n) → Copied C n 0 e u → Cleared C inv x t n z 0 e u
     cleared_none e u saved d = record {
@@ -61,7 +57,7 @@ module _ {C : Code} {inv : ℕ → ℕ} {x : List ℕ} {t : ℕ} (v : Solvable C
             | yes q ↦ rw q (sym (upd_at (entry C u) n _ ∙ same_rows C _ _ saved))
             | no q ↦ sym (upd_off (entry C u) n _ m q ∙ same_rows C _ _ (d.off m (omega arith) q))
           ]))
-          (sys_right t _ _ _ (taking_none laws (node_at x) v.elements t n I));
+          (sys_right t _ _ _ (taking_none (laws v) (node_at x) v.elements t n I));
       off = λ μ h k. d.off μ k (λ q. omega arith);
     }
 
@@ -90,7 +86,7 @@ module _ {C : Code} {inv : ℕ → ℕ} {x : List ℕ} {t : ℕ} (v : Solvable C
             | yes q ↦ λ i c h l. (rw q at at) i c h l ∙ ap (λ a. bit_xor a (scaled C (factor C inv x n 0) z i c)) (d.fresh q i c h l)
             | no q ↦ λ i c h l. off 0 (omega arith) (λ r. omega arith) i c h l ∙ d.first (omega arith) i c h l
           ];
-          same = λ I. rw add-one (Iff.trans (d.same I) (taking_step laws (node_at x) v.elements t n j v.apart lt within _ _ I step));
+          same = λ I. rw add-one (Iff.trans (d.same I) (taking_step (laws v) (node_at x) v.elements t n j v.apart lt within _ _ I step));
           off = λ μ h k i c p q. off μ k (λ r. omega arith) i c p q ∙ d.off μ h k i c p q;
         }
 
@@ -119,12 +115,12 @@ module _ {C : Code} {inv : ℕ → ℕ} {x : List ℕ} {t : ℕ} (v : Solvable C
         last zero q = absurd (omega arith)
         last (suc k) q =
             let p : n - 1 ≡ k = omega arith in
-            rw (p, q) (taken_step laws (node_at x) v.elements t k v.apart (omega arith) _ _ I (rw q at done))
+            rw (p, q) (taken_step (laws v) (node_at x) v.elements t k v.apart (omega arith) _ _ I (rw q at done))
 
   pub found_starts : (S : List ℕ) (u : ℕ) → t ≡ suc u → SameSolutions C inv x t (stage_of C inv x t (t - 1)) (found_of C inv x t (t - 1)) S S
   found_starts S u e I =
       let f : t - 1 ≡ u = omega arith in
-      rw (f, e) (sys_right (suc u) _ _ _ (found_first laws (node_at x) v.elements u I))
+      rw (f, e) (sys_right (suc u) _ _ _ (found_first (laws v) (node_at x) v.elements u I))
 
   pub found_ends : (S : List ℕ) (k : ℕ) → k ≡ 0 → SameSolutions C inv x t (found_of C inv x t k) (λ I. I) S S
-  found_ends S k e I = rw e (sys_right t _ _ _ (found_all laws (node_at x) v.elements t I))
+  found_ends S k e I = rw e (sys_right t _ _ _ (found_all (laws v) (node_at x) v.elements t I))

@@ -21,12 +21,9 @@ part_of C inv x t j k = staged (grid_xor C) (grid_ops C inv) (node_at x) t j k
 pub laws_of : (m n : ℕ) (prod : ℕ → ℕ → ℕ) (inv : ℕ → ℕ) → m ≡ n → FieldLaws n prod inv → FieldLaws m prod inv
 laws_of m n prod inv e laws = rw e laws
 
-pub packet_laws : (C : Code) (inv : ℕ → ℕ) → FieldLaws C.rows C.product inv → Laws (grid_xor C) (grid_ops C inv) (Ok C.rows) (Nz C.rows)
-packet_laws C inv laws = grid_laws C laws
-
 module _ {C : Code} {inv : ℕ → ℕ} {x : List ℕ} {t : ℕ} (v : Solvable C inv x t) where
-  laws : Laws (grid_xor C) (grid_ops C inv) (Ok C.rows) (Nz C.rows)
-  laws = packet_laws C inv v.laws
+  pub laws : Laws (grid_xor C) (grid_ops C inv) (Ok C.rows) (Nz C.rows)
+  laws = grid_laws C v.laws
 
   pub stages_start : (S : List ℕ) → SameSolutions C inv x t (sums_of C inv x t) (stage_of C inv x t 0) S S
   stages_start S I = sys_right t _ _ _ (λ m _. sym (form_zero laws (node_at x) v.elements t I m))

@@ -15,9 +15,9 @@ use Rattle.layout.specs.Blocks.{code_of, ZeroRun}
 use Rattle.layout.specs.Checks.{CheckedFirst, at_width}
 use Rattle.layout.specs.Made.{dimensions_of, Listed}
 use Rattle.layout.proofs.Passes.{passed, pass_both, width_ok, run_ok, losses_ok}
-use Rattle.code.specs.Calls.{repair_refusal, Repaired, ContradictoryRun}
+use Rattle.code.specs.Calls.{repair_refusal, Repaired, ContradictoryRun, Restored}
 use Rattle.guyekpan.specs.Bytes.{words_of, positions_of}
-use Rattle.guyekpan.specs.Host.{octet, host_check_refusal, Positions, HostRepaired}
+use Rattle.guyekpan.specs.Host.{octet, host_check_refusal, Positions, HostAttempted, HostRepaired}
 
 lost_below : (s : Shape) (xs : List ℕ) (l : LossList) → Listed s xs l → LostBelow l s.positions
 lost_below s xs l listed k lt =
@@ -44,35 +44,26 @@ module _ (d : Dimensions) (s : Shape) (l : LossList) (block losses work work' : 
   named_positions : Positions d.positions losses
   named_positions = rw (ap (λ d. Dimensions.positions d) of) at positions
 
-  pub repaired : (xs' block' : List ℕ) (r : Result (Unit {0}) Refusal) → words_of block' ≡ xs' → is_ok r ≡ true → IfOk r (λ u. Repaired C l xs xs')
-      → HostRepaired d losses block block' work work' r
-  repaired xs' block' (Ok u) back ok a = record {
+  attempted : (block' : List ℕ) (r : Result (Unit {0}) Refusal) → Restored C l (words_of block) (words_of block') r → HostAttempted d losses block block' work work' r
+  attempted block' r restored = record {
     shape = s;
     of = of;
     passed = checked;
     positions = named_positions;
     list = l;
     listed = listed;
-    restored = rw (spell, ← back) at a;
+    restored = restored;
     cleared = cleared;
   }
+
+  pub repaired : (xs' block' : List ℕ) (r : Result (Unit {0}) Refusal) → words_of block' ≡ xs' → is_ok r ≡ true → IfOk r (λ u. Repaired C l xs xs')
+      → HostRepaired d losses block block' work work' r
+  repaired xs' block' (Ok u) back ok a = attempted block' (Ok u) (rw (spell, ← back) at a)
   repaired xs' block' (Err e) back ok a = absurd (true_false false ok refl)
 
   pub unrepaired : (r : Result (Unit {0}) Refusal) → is_ok r ≡ false → CheckedFirst check (ContradictoryRun C l xs) r → HostRepaired d losses block block work work' r
   unrepaired (Ok u) not a = absurd (true_false true refl not)
   unrepaired (Err e) not a = elim a [
     | inl refused ↦ passed check (said e) unrefused (sym refused)
-    | inr tried ↦ (
-      refl,
-      inr record {
-        shape = s;
-        of = of;
-        passed = checked;
-        positions = named_positions;
-        list = l;
-        listed = listed;
-        restored = (rw spell at tried.1, refl);
-        cleared = cleared;
-      },
-    )
+    | inr tried ↦ (refl, inr (attempted block (Err e) (rw spell at tried.1, refl)))
   ]

@@ -16,6 +16,8 @@ use head_end::{HeadEnd, shape_for};
 use history::trial::trial_of_octets;
 use layout::shape::{Dimensions, Shape};
 use link::Link;
+use receiver::take::format_for;
+use refusal::Refusal;
 use std::alloc::Global;
 use std::process::ExitCode;
 use std::{env, fs};
@@ -93,9 +95,9 @@ fn compare(
 fn boards(rt: &HostRuntime, head_end: &HeadEnd) -> anyhow::Result<bool> {
     let heap = rt.alloc();
     let shape = *head_end.shape();
-    let slots = shape.blocks() * shape.positions() * (shape.packet() + 1);
-    let mut memory = vec![in heap; 0; slots]?;
-    let mut flash = vec![in heap; 0; slots + 1]?;
+    let format = format_for(&shape);
+    let mut memory = vec![in heap; 0; MemoryStore::words_for(format).ok_or(Refusal::BadFormat)?]?;
+    let mut flash = vec![in heap; 0; NorStore::words_for(format).ok_or(Refusal::BadFormat)?]?;
     let stepped_link = Link::new(heap, shape, 0x2545_F491)?;
     let tabled_link = Link::new(heap, shape, 0x9E37_79B9)?;
     let mut stepped = Board::new(heap, "stepped", stepped_link, head_end)?;

@@ -99,7 +99,8 @@ impl LossList {
     pub fn positions(&self) -> &[usize]
         ensures value { result.now ≡ lost_at self.now }
         ensures len { length result.now ≡ self.now.len }
-        ensures at { (s : ℕ) → s < self.now.len → slice_index result.now s ≡ lost self.now s }
+        ensures at { (s : ℕ) → s < self.now.len
+            → slice_index result.now s ≡ lost self.now s }
     {
         &self.at[0..self.len]
     }

@@ -1,6 +1,7 @@
 //! Frames in.
 ghost use Rattle.std.specs.Prelude.{◌≡◌, ◌≤◌, length, Some};
 ghost use Rattle.refusal.specs.Numbers.{refused_with};
+ghost use Rattle.layout.specs.Sizes.{packet_of};
 ghost use Rattle.frame.specs.Frames.{parse};
 ghost use Rattle.receiver.specs.Meaning.{StaysShut, means};
 ghost use Rattle.receiver.specs.Calls.{start_refusal, TookShape, Compared, packet_refusal, TookPacket, take_refusal, Took};
@@ -13,6 +14,19 @@ use refusal::Refusal;
 use store::SlotStore;
 use store::slots::{Format, Slot};
 
+/// The format of a store for a shape: a row for each block, a column for each position, and in each slot a packet.
+pub fn format_for(shape: &Shape) -> Format
+    ensures rows { result.rows ≡ shape.now.blocks }
+    ensures columns { result.columns ≡ shape.now.positions }
+    ensures size { result.size ≡ packet_of shape.now }
+{
+    Format {
+        rows: shape.blocks(),
+        columns: shape.positions(),
+        size: shape.packet(),
+    }
+}
+
 impl<F: Arithmetic, S: SlotStore> Receiver<F, S> {
     // Sets a shape of these dimensions, and formats the store for it.
     fn start(&mut self, dimensions: Dimensions) -> Result<Taken, Refusal>
@@ -22,12 +36,7 @@ impl<F: Arithmetic, S: SlotStore> Receiver<F, S> {
         ensures shut { StaysShut self.old self.new }
     {
         let shape = Shape::new::<F>(dimensions)?;
-        // Made here, since neither a shape nor a format knows the other.
-        self.store.format(Format {
-            rows: shape.blocks(),
-            columns: shape.positions(),
-            size: shape.packet(),
-        })?;
+        self.store.format(format_for(&shape))?;
         self.shape = Some(shape);
         Ok(Taken::Shaped)
     }

@@ -9,7 +9,6 @@ use Rattle.layout.specs.Sizes.{parity_of, packet_of, Packets}
 use Rattle.layout.proofs.Blocks.{packet_pos}
 use Rattle.layout.proofs.Places.{part_ends}
 use Rattle.layout.proofs.Parts.{part_length}
-use Rattle.layout.specs.Checks.{width_refusal}
 use Rattle.layout.proofs.Passes.{pass_both, run_ok, run_passes}
 use Rattle.refusal.specs.Numbers.{or_else}
 use Rattle.layout.specs.Blocks.{code_of}

@@ -15,7 +15,7 @@ returns-clause-after g c =
     let made = c.in_ok-shape.ensures.made in
     let h = c.in_ok-format.ensures in
     let G = g.S.SlotStore.grid c.format.new.self in
-    let E : Emptied s.blocks s.positions (packet_of s) G = rw (c.blocks-2.ensures.value, c.positions.ensures.value, c.packet.ensures.value) at h.after in
+    let E : Emptied s.blocks s.positions (packet_of s) G = rw (c.format_for.ensures.rows, c.format_for.ensures.columns, c.format_for.ensures.size) at h.after in
     record {
       made = s;
       dimensions = made;

@@ -41,18 +41,8 @@ loop-block-preserved g c =
           (rw (turn.source.is, here, c.in_ok-code.ensures.of) at c.in_ok-encode.ensures.filled) (rw here at v.prepared));
     }
 
-pub returns-in_err-encode-clause-answer : goal.returns-in_err-encode-clause-answer
-returns-in_err-encode-clause-answer g c =
-    let s = c.args.shape.now in
-    let v = c.loop-block.invariant in
-    let (step, number, _, _) = c.in-Some.ensures.steps in
-    let (image, parity) = runs_pass s _ _ c.in_ok-check_runs.ensures in
-    let of = c.words-part.ensures.value ∙ ap (λ r. r * packet_of s) c.parity.ensures in
-    let turn = block_turn s c.args.image.now c.loop-block.parity (length c.loop-block.yielded) _ _ _ _ _ image (c.loop-block.auto.parity ∙ parity) v.size of v.left step.1 in
-    passed _ _ (rw (sym (number ∙ v.count)) at (encodes s _ _ _ _ _ _ of turn)) (rw c.in_ok-code.ensures.of at c.in_err-encode.ensures.answer)
-
-pub returns-in_err-encode-clause-kept : goal.returns-in_err-encode-clause-kept
-returns-in_err-encode-clause-kept g c =
+pub returns-in_err-encode : goal.returns-in_err-encode
+returns-in_err-encode g c =
     let s = c.args.shape.now in
     let v = c.loop-block.invariant in
     let (step, number, _, _) = c.in-Some.ensures.steps in
