@@ -18,7 +18,7 @@ use Rattle.receiver.specs.declared.Whole.{Whole as Completed}
 use Rattle.receiver.specs.Meaning.{Meaning}
 use Rattle.receiver.specs.Sound.{Sound}
 use Rattle.receiver.specs.Calls.{Starts, Keeps, Knows, take_refusal, Took}
-use Rattle.receiver.specs.Repairs.{repair_refusal, Completes, Restored}
+use Rattle.receiver.specs.Repairs.{repair_refusal, Completes, MadeWhole}
 use Rattle.history.specs.Steps.{AfterRepair}
 use Rattle.history.specs.declared.call.Call.{Call}
 use Rattle.history.specs.declared.call.Call.TheVariants.{Take, Repair, Fetch, Count}
@@ -192,7 +192,7 @@ module _ (P : Board) where
     }
 
     -- a repair that makes a block whole
-    restores : (i n : ℕ) (work : List ℕ) (after : Meaning) → repair_refusal m i work ≡ None → Restored P.product m i n after → Linked P (completing l i) after
+    restores : (i n : ℕ) (work : List ℕ) (after : Meaning) → repair_refusal m i work ≡ None → MadeWhole P.product m i n after → Linked P (completing l i) after
     restores i n work after pass R = record {
       capacity_is = R.capacity_same ∙ L.capacity_is;
       shape_is = L.shape_is ∙ ap present (sym R.shape_same);

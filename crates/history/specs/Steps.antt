@@ -12,7 +12,7 @@ use Rattle.receiver.specs.declared.Whole.{Whole as Completed}
 use Rattle.receiver.specs.Meaning.{Meaning}
 use Rattle.receiver.specs.Sound.{Sound}
 use Rattle.receiver.specs.Calls.{take_refusal, Took, fetch_refusal, count_refusal, Counted}
-use Rattle.receiver.specs.Repairs.{repair_refusal, Restored, Conflicts, Judges}
+use Rattle.receiver.specs.Repairs.{repair_refusal, MadeWhole, Conflicts, Judges}
 use Rattle.history.specs.declared.call.Call.{Call}
 use Rattle.history.specs.declared.call.Call.TheVariants.{Take, Repair, Fetch, Count}
 use Rattle.history.specs.declared.call.Answer.{Answer}
@@ -50,7 +50,7 @@ pub record Takes (bits : ℕ) (m : Meaning) (t : Turn) (after : Meaning) : Type 
 
 -- what a repair does, by its outcome
 pub record AfterRepair (prod : ℕ → ℕ → ℕ) (m : Meaning) (i : ℕ) (work work' : List ℕ) (r : Result Completed Refusal) (after : Meaning) : Type 0 where
-  pub whole : IfOk r (λ w. Restored prod m i w.restored after)
+  pub whole : IfOk r (λ w. MadeWhole prod m i w.restored after)
   pub answer : CheckedFirst (repair_refusal m i work) (Conflicts prod m i) r
   pub left : IfErr r (λ e. after ≡ m)
   pub cleared : Cleared (repair_refusal m i work) work work'

@@ -58,7 +58,7 @@ PushRefused s l position e =
     ((Follows l position s.positions → ⊥) × (e ≡ said BadLosses)) ⊎ (Follows l position s.positions × (s.positions - s.sources ≤ l.len) × (e ≡ said TooFew))
 
 -- the position stands behind the others
-pub record Added (s : Shape) (before : LossList) (position : ℕ) (after : LossList) : Type 0 where
+pub record Appended (s : Shape) (before : LossList) (position : ℕ) (after : LossList) : Type 0 where
   pub follows : Follows before position s.positions
   pub room : before.len < s.positions - s.sources
   pub positions : lost_at after ≡ lost_at before ++ position ∷ []
@@ -68,5 +68,5 @@ pub record Added (s : Shape) (before : LossList) (position : ℕ) (after : LossL
 
 -- the position stands behind the others, or the list is as it was
 abbrev pub Pushed : Shape → LossList → ℕ → LossList → Result (Unit {0}) Refusal → Type 0
-Pushed s before position after (Ok u) = Added s before position after
+Pushed s before position after (Ok u) = Appended s before position after
 Pushed s before position after (Err e) = (after ≡ before) × PushRefused s before position (said e)

@@ -21,7 +21,7 @@ use Rattle.receiver.specs.Sound.{Fitted}
 use Rattle.receiver.specs.Meaning.{Meaning}
 use Rattle.receiver.specs.Calls.{count_refusal, held_in}
 use Rattle.receiver.specs.Blocks.{block_of, Missing, missing_in, Agrees}
-use Rattle.receiver.specs.Repairs.{few_refusal, repair_refusal, Completes, Restored, Conflicts, OneFits, SeveralFit, NoneFits, NoneFitsAt, Judged}
+use Rattle.receiver.specs.Repairs.{few_refusal, repair_refusal, Completes, MadeWhole, Conflicts, OneFits, SeveralFit, NoneFits, NoneFitsAt, Judged}
 use Rattle.receiver.specs.Steps.{Lacks, Mended, ContradictsHeld}
 use Rattle.receiver.proofs.Completing.{held_from, agree_off, agree_held}
 use Rattle.receiver.proofs.Reading.{same_read}
@@ -144,7 +144,7 @@ repair_passes m s i work is block run few = grind (arith, is, block, run, few)
 -- what is mended
 module _ (s : Shape) (prod : ℕ → ℕ → ℕ) (l : LossList) (m : Meaning) (i : ℕ) (is : m.shape ≡ Some s) (A : Lacks s m.grid i l) (after : Meaning)
     (shape : after.shape ≡ m.shape) (capacity : after.capacity ≡ m.capacity) where
-  pub mended_whole : (r : Result Whole Refusal) → Mended s prod l m.grid i r after.grid → IfOk r (λ w. Restored prod m i w.restored after)
+  pub mended_whole : (r : Result Whole Refusal) → Mended s prod l m.grid i r after.grid → IfOk r (λ w. MadeWhole prod m i w.restored after)
   mended_whole (Ok w) d = record {
     s = s;
     shape_is = is;

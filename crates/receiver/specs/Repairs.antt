@@ -38,7 +38,7 @@ pub record Completes (C : Code) (g : Grid) (i : ℕ) (h : Grid) : Type 0 where
   pub only : (d : Block) → Codeword C d → Agrees C g i d → SameBlock C d (block_of C h i)
 
 -- the block is whole, with as many packets restored as were missing
-pub record Restored (prod : ℕ → ℕ → ℕ) (m : Meaning) (i restored : ℕ) (after : Meaning) : Type 0 where
+pub record MadeWhole (prod : ℕ → ℕ → ℕ) (m : Meaning) (i restored : ℕ) (after : Meaning) : Type 0 where
   pub s : Shape
   pub shape_is : m.shape ≡ Some s
   pub number : count (held_in m.grid i) s.positions + restored ≡ s.positions

@@ -4,7 +4,7 @@ ghost use Rattle.layout.specs.Sizes.{parity_of, Packets};
 ghost use Rattle.layout.specs.Checks.{CheckedFirst, Cleared};
 ghost use Rattle.receiver.specs.Meaning.{StaysShut, means};
 ghost use Rattle.receiver.specs.Steps.{Lacks, AllPut, Mended};
-ghost use Rattle.receiver.specs.Repairs.{repair_refusal, Conflicts, Judges, Restored};
+ghost use Rattle.receiver.specs.Repairs.{repair_refusal, Conflicts, Judges, MadeWhole};
 
 use crate::stored::StoredBlock;
 use crate::{Receiver, Whole};
@@ -80,7 +80,7 @@ impl<F: Arithmetic, S: SlotStore> Receiver<F, S> {
     /// Refused with `NoShape`, `OutsideShape`, `WrongRun` at place 0 or `TooFew`, whichever comes first, and then nothing changes;
     /// refused with `Contradictory` if no codeword has the packets that are held, and then only the work run changes.
     pub fn repair(&mut self, block: usize, work: &mut [u32]) -> Result<Whole, Refusal>
-        ensures whole { IfOk result (λ w. Restored F.Arithmetic.prod
+        ensures whole { IfOk result (λ w. MadeWhole F.Arithmetic.prod
             (means self.old) block w.restored (means self.new)) }
         ensures answer { CheckedFirst (repair_refusal (means self.old) block work.old)
             (Conflicts F.Arithmetic.prod (means self.old) block) result }
