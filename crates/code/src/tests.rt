@@ -1,3 +1,4 @@
+//! The block calls on the known block.
 use crate::block;
 use crate::block::{encode, repair};
 use field::nibble::*;

@@ -1,4 +1,4 @@
-// Words and positions in byte strings, highest byte first.
+//! Words and positions in byte strings, highest byte first.
 ghost use Rattle.std.specs.Prelude.{◌≡◌, ◌+◌, ◌*◌, ◌≤◌, length, slice_index};
 ghost use Rattle.layout.specs.Blocks.{ZeroRun};
 ghost use Rattle.guyekpan.specs.Bytes.{words_of, positions_of};

@@ -1,4 +1,4 @@
-// The block calls, on the words that byte strings spell.
+//! The block calls, on the words that byte strings spell.
 ghost use Rattle.std.specs.Prelude.{◌≡◌, IsOk, OnOk, OnErr};
 ghost use Rattle.refusal.specs.Numbers.{refused_with};
 ghost use Rattle.guyekpan.specs.Host.{Small, host_number, host_encode_refusal, HostEncoded, host_check_refusal, AfterHostCheck, HostRepaired};

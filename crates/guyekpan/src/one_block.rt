@@ -1,4 +1,4 @@
-// The shape that a host names: of one block, which fits the room.
+//! The shape that a host names: of one block, which fits the room.
 ghost use Rattle.std.specs.Prelude.{◌≡◌, ◌*◌, ◌≤◌, IfOk};
 ghost use Rattle.refusal.specs.Numbers.{refused_with};
 ghost use Rattle.layout.specs.Made.{dimensions_of};

@@ -1,3 +1,4 @@
+//! Strings of calls on two boards of different make.
 use crate::call::{Answer, Call, Entry};
 use crate::trial::trial_of_octets;
 use refusal::Refusal;

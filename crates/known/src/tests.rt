@@ -1,4 +1,4 @@
-// The same values, as the calls give them when they run.
+//! The same values, as the calls give them when they run.
 use crate::answers::{
     contradicted, contradicted_behind, encoded, known_losses, known_shape, repaired,
 };

@@ -1,4 +1,4 @@
-// The lost positions of a block.
+//! The lost positions of a block.
 ghost use Rattle.std.specs.Prelude.{◌≡◌, ℕ, ◌-◌, ◌<◌, ◌≤◌, length, slice_index};
 ghost use Rattle.refusal.specs.Numbers.{refused_with};
 ghost use Rattle.algebra.specs.Code.{among};

@@ -1,4 +1,4 @@
-// Runs of words.
+//! Runs of words.
 ghost use Rattle.layout.specs.Blocks.{ZeroRun};
 
 /// Fills a run with zeros.

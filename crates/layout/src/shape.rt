@@ -1,4 +1,4 @@
-// The five numbers of a transmission.
+//! The five numbers of a transmission.
 ghost use Rattle.std.specs.Prelude.{◌≡◌, ◌+◌, ◌-◌, ◌*◌, ◌^◌, ◌<◌, ◌≤◌};
 ghost use Rattle.refusal.specs.Numbers.{refused_with};
 

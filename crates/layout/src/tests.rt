@@ -1,3 +1,4 @@
+//! Shapes and loss lists at their bounds.
 use crate::losses::LossList;
 use crate::shape::{Dimensions, Shape};
 use field::Arithmetic;

@@ -1,4 +1,11 @@
 //! A board's receiver: frames in, packets kept in the slots of a store, blocks repaired, packets out.
+//!
+//! ```
+//! let mut receiver = Receiver::<TabledOctet, _>::new(MemoryStore::new(&mut words));
+//! receiver.take(&frame)?;
+//! let whole = receiver.repair(0, &mut work)?;
+//! receiver.fetch(0, 5, &mut packet)?;
+//! ```
 #![tactic(auto)]
 
 ghost use Rattle.receiver.specs.Sound.{Sound};

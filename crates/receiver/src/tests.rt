@@ -1,3 +1,4 @@
+//! One receiver over each store.
 use crate::{Receiver, Taken};
 use field::nibble::*;
 use refusal::Refusal;

@@ -1,4 +1,8 @@
-// Why a call of this project was refused: one list of numbered refusals.
+//! Why a call of this project was refused: one list of numbered refusals.
+//!
+//! ```
+//! assert_eq!(rt; Refusal::WrongRun { place: 1 }.number(), 5);
+//! ```
 #![tactic(auto)]
 
 ghost use Rattle.std.specs.Prelude.{◌≡◌, Some};
@@ -10,44 +14,44 @@ use std::fmt;
 
 #[derive(Clone, Copy, PartialEq, Eq, Debug)]
 pub enum Refusal {
-    // 1: the rows of a packet are not the width of the arithmetic.
+    /// 1: the rows of a packet are not the width of the arithmetic.
     OtherWidth,
-    // 2: there are no source positions, no parity positions, or more than 32 of the latter.
+    /// 2: there are no source positions, no parity positions, or more than 32 of the latter.
     BadCounts,
-    // 3: the block has more positions than the field has nonzero elements.
+    /// 3: the block has more positions than the field has nonzero elements.
     TooLong,
-    // 4: the number of blocks or of words in a row is out of its range.
+    /// 4: the number of blocks or of words in a row is out of its range.
     BadSize,
-    // 5: the run at this place, counted from 0, has not its number of words.
+    /// 5: the run at this place, counted from 0, has not its number of words.
     WrongRun { place: usize },
-    // 6: the lost positions do not ascend, or one is outside the block.
+    /// 6: the lost positions do not ascend, or one is outside the block.
     BadLosses,
-    // 7: fewer packets are left than a block has source positions.
+    /// 7: fewer packets are left than a block has source positions.
     TooFew,
-    // 8: no codeword has the packets that are left: the lowest sum that is not zero, and its first word that is not.
+    /// 8: no codeword has the packets that are left: the lowest sum that is not zero, and its first word that is not.
     Contradictory { sum: usize, word: usize },
-    // 9: the words are neither a shape frame nor a packet frame.
+    /// 9: the words are neither a shape frame nor a packet frame.
     BadFrame,
-    // 10: no shape is set.
+    /// 10: no shape is set.
     NoShape,
-    // 11: the block, the position or the frame number is outside the shape.
+    /// 11: the block, the position or the frame number is outside the shape.
     OutsideShape,
-    // 12: the slot holds another packet.
+    /// 12: the slot holds another packet.
     OtherPacket,
-    // 20: a number of the format is 0 or too large, or the slots exceed the store.
+    /// 20: a number of the format is 0 or too large, or the slots exceed the store.
     BadFormat,
-    // 21: the row or the column is outside the grid.
+    /// 21: the row or the column is outside the grid.
     OutsideGrid,
-    // 22: the slot is filled.
+    /// 22: the slot is filled.
     SlotFilled,
-    // 23: the slot is empty.
+    /// 23: the slot is empty.
     SlotEmpty,
-    // 24: the run has not the size of a packet.
+    /// 24: the run has not the size of a packet.
     WrongSize,
 }
 
 impl Refusal {
-    // The number by which a refusal is known outside the program.
+    /// The number by which a refusal is known outside the program.
     pub fn number(&self) -> u32
         ensures { result ≡ number_of self.now }
     {
