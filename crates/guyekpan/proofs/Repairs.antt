@@ -11,7 +11,7 @@ use Rattle.layout.specs.declared.shape.Dimensions.{Dimensions}
 use Rattle.layout.specs.declared.shape.Shape.{Shape}
 use Rattle.layout.specs.declared.losses.LossList.{LossList}
 use Rattle.layout.specs.Sizes.{parity_of, Packets, LostBelow}
-use Rattle.layout.specs.Blocks.{code_of, ZeroRun}
+use Rattle.layout.specs.Blocks.{code_of, code_for, ZeroRun}
 use Rattle.layout.specs.Checks.{CheckedFirst, at_width}
 use Rattle.layout.specs.Made.{dimensions_of, Listed}
 use Rattle.layout.proofs.Passes.{passed, pass_both, width_ok, run_ok, losses_ok}
@@ -52,7 +52,7 @@ module _ (d : Dimensions) (s : Shape) (l : LossList) (block losses work work' : 
     positions = named_positions;
     list = l;
     listed = listed;
-    restored = restored;
+    restored = subst (λ (d : Dimensions). Restored (code_for d octet) l (words_of block) (words_of block') r) of restored;
     cleared = cleared;
   }
 

@@ -10,7 +10,7 @@ use Rattle.layout.specs.declared.losses.LossList.{LossList}
 use Rattle.layout.specs.Rules.{InOrder}
 use Rattle.layout.specs.Made.{dimensions_of, shape_refusal, Listed}
 use Rattle.layout.specs.Sizes.{packet_of}
-use Rattle.layout.specs.Blocks.{code_of, ZeroRun}
+use Rattle.layout.specs.Blocks.{code_for, ZeroRun}
 use Rattle.code.specs.Calls.{CodewordRun, Encoded, Says, Restored}
 use Rattle.guyekpan.specs.Bytes.{words_of, positions_of}
 
@@ -61,10 +61,8 @@ host_encode_refusal d source parity =
     or_else (host_shape_refusal d) (or_else (string_refusal d d.sources source 0) (string_refusal d (d.positions - d.sources) parity 1))
 
 -- parity and source string spell a codeword
-pub record HostEncoded (d : Dimensions) (source parity : List ℕ) : Type 0 where
-  pub shape : Shape
-  pub of : dimensions_of shape ≡ d
-  pub encoded : Encoded (code_of shape octet) (words_of source) (words_of parity)
+abbrev pub HostEncoded : Dimensions → List ℕ → List ℕ → Type 0
+HostEncoded d source parity = Encoded (code_for d octet) (words_of source) (words_of parity)
 
 abbrev pub encode_number : Dimensions → List ℕ → List ℕ → ℕ
 encode_number d source parity = host_number (host_encode_refusal d source parity)
@@ -77,9 +75,7 @@ host_check_refusal d block work =
 
 -- whether the block is a codeword; and the work string is zero
 pub record HostChecked (d : Dimensions) (block work : List ℕ) (answer : Bool) : Type 0 where
-  pub shape : Shape
-  pub of : dimensions_of shape ≡ d
-  pub says : Says answer (CodewordRun (code_of shape octet) (words_of block))
+  pub says : Says answer (CodewordRun (code_for d octet) (words_of block))
   pub cleared : ZeroRun work
 
 abbrev pub AfterHostCheck : Dimensions → List ℕ → List ℕ → List ℕ → Result Bool Refusal → Type 0
@@ -125,7 +121,7 @@ pub record HostAttempted (d : Dimensions) (losses block block' work work' : List
   pub positions : Positions d.positions losses
   pub list : LossList
   pub listed : Listed shape (positions_of losses) list
-  pub restored : Restored (code_of shape octet) list (words_of block) (words_of block') outcome
+  pub restored : Restored (code_for d octet) list (words_of block) (words_of block') outcome
   pub cleared : ZeroRun work'
 
 abbrev pub HostRepaired : Dimensions → List ℕ → List ℕ → List ℕ → List ℕ → List ℕ → Result (Unit {0}) Refusal → Type 0

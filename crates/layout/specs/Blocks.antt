@@ -1,12 +1,16 @@
 -- The packets of a run, and the code of a shape.
-use Rattle.std.specs.Prelude.{◌≡◌, ℕ, ◌+◌, ◌*◌, List, length, slice_index}
+use Rattle.std.specs.Prelude.{◌≡◌, ℕ, ◌+◌, ◌-◌, ◌*◌, List, length, slice_index}
 use Rattle.algebra.specs.Code.{Code, Packet, Block}
+use Rattle.layout.specs.declared.shape.Dimensions.{Dimensions}
 use Rattle.layout.specs.declared.shape.Shape.{Shape}
-use Rattle.layout.specs.Sizes.{parity_of}
+use Rattle.layout.specs.Made.{dimensions_of}
 
--- the code of a shape, over a product
+-- the code of dimensions over a product, and of a shape
+abbrev pub code_for : Dimensions → (ℕ → ℕ → ℕ) → Code
+code_for d prod = record { rows = d.rows; words = d.words; positions = d.positions; parity = d.positions - d.sources; product = prod }
+
 abbrev pub code_of : Shape → (ℕ → ℕ → ℕ) → Code
-code_of s prod = record { rows = s.rows; words = s.words; positions = s.positions; parity = parity_of s; product = prod }
+code_of s prod = code_for (dimensions_of s) prod
 
 -- a run of one packet, with w words in a row
 abbrev pub packet_in : ℕ → List ℕ → Packet
