@@ -1,31 +1,44 @@
 -- What the steps on rows keep from turn to turn.
-use Rattle.std.proofs.Common.{◌≡◌, ℕ, ◌+◌, ◌*◌, ◌/◌, ◌^◌, ◌<◌, ◌≤◌, List, length, get_or, sym, refl, ap, ◌∙◌, ap₂, one-mul, zero-mul, add-one, arith}
+use Rattle.std.proofs.Common.{◌≡◌, ◌≢◌, ◌%◌, ℕ, ◌+◌, ◌*◌, ◌/◌, ◌^◌, ◌<◌, ◌≤◌, List, length, get_or, sym, refl, ap, ◌∙◌, ap₂, one-mul, zero-mul, add-one, arith}
 use native.Mathlib.Decide.{ℕ_discrete}
 use borrow.Rule.Slice.PartMut.{put_mid}
-use lib.Bits.{bit_xor, bit_and, and_mask, xor_zero_r}
+use Rattle.std.specs.List.{between}
+use lib.Bits.{bit_xor, bit_and, and_mask, xor_assoc, xor_zero_r}
 use Rattle.algebra.specs.Code.{Packet, xors, bit}
 use Rattle.layout.specs.Blocks.{packet_in}
 use Rattle.code.specs.Packets.{selected}
-use Rattle.layout.proofs.Parts.{part_written, part_kept}
+use Rattle.layout.proofs.Parts.{part_written, part_kept, part_read}
 
--- one row more is selected, or not
-module _ (columns : List ℕ) (i : ℕ) (p : Packet) (c n : ℕ) where
-  pub selected_none : selected 0 columns i p c ≡ 0
-  unfolding xors
-  selected_none = refl
+-- t is the row e with those of the first n rows of the source added that row i of a matrix selects
+pub record RowAt (w : ℕ) (columns : List ℕ) (i : ℕ) (source : List ℕ) (n : ℕ) (e t : List ℕ) : Type 0 where
+  pub at : (c : ℕ) → c < w → get_or t c 0 ≡ bit_xor (get_or e c 0) (selected n columns i (packet_in w source) c)
 
-  pub selected_set : bit_and (get_or columns n 0 / 2 ^ i) 1 ≡ 1 → selected (n + 1) columns i p c ≡ bit_xor (selected n columns i p c) (p n c)
+pub row_none : (w : ℕ) (columns : List ℕ) (i : ℕ) (source e : List ℕ) → RowAt w columns i source 0 e e
+unfolding xors
+row_none w columns i source e = record { at = λ c h. sym (xor_zero_r _) }
+
+-- column n, x, selects row n, or not
+module _ {w : ℕ} {columns : List ℕ} {i : ℕ} {source : List ℕ} {n : ℕ} {e t : List ℕ} (d : RowAt w columns i source n e t) (x : ℕ) (is : x ≡ get_or columns n 0) where
+  more : (b : ℕ) → bit_and (x / 2 ^ i) 1 ≡ b → (c : ℕ)
+      → selected (n + 1) columns i (packet_in w source) c ≡ bit_xor (selected n columns i (packet_in w source) c) (b * packet_in w source n c)
   unfolding xors bit
-  selected_set h =
-      ap (λ k. selected k columns i p c) (add-one n)
-      ∙ ap (λ b. bit_xor (selected n columns i p c) (b * p n c)) (sym (and_mask (get_or columns n 0 / 2 ^ i) 1) ∙ h) ∙ ap (bit_xor _) (one-mul (p n c))
+  more b h c =
+      ap (λ k. selected k columns i (packet_in w source) c) (add-one n)
+      ∙ ap (λ b. bit_xor (selected n columns i (packet_in w source) c) (b * packet_in w source n c)) (ap (λ y. y / 2 ^ i % 2) (sym is) ∙ sym (and_mask (x / 2 ^ i) 1) ∙ h)
 
-  pub selected_clear : bit_and (get_or columns n 0 / 2 ^ i) 1 ≡ 0 → selected (n + 1) columns i p c ≡ selected n columns i p c
-  unfolding xors bit
-  selected_clear h =
-      ap (λ k. selected k columns i p c) (add-one n)
-      ∙ ap (λ b. bit_xor (selected n columns i p c) (b * p n c)) (sym (and_mask (get_or columns n 0 / 2 ^ i) 1) ∙ h)
-      ∙ ap (bit_xor _) (zero-mul (p n c)) ∙ xor_zero_r _
+  pub row_left : bit_and (x / 2 ^ i) 1 ≢ 1 → RowAt w columns i source (n + 1) e t
+  row_left h =
+      let m = and_mask (x / 2 ^ i) 1 in
+      let clear : bit_and (x / 2 ^ i) 1 ≡ 0 = omega arith in
+      record { at = λ c l. d.at c l ∙ ap (bit_xor (get_or e c 0)) (sym (more 0 clear c ∙ ap (bit_xor _) (zero-mul _) ∙ xor_zero_r _)) }
+
+  pub row_added : bit_and (x / 2 ^ i) 1 ≡ 1 → (row t' : List ℕ) → row ≡ between (n * w) (n * w + w) source
+      → ((c : ℕ) → c < w → get_or t' c 0 ≡ bit_xor (get_or t c 0) (get_or row c 0)) → RowAt w columns i source (n + 1) e t'
+  row_added h row t' read gained = record {
+    at = λ c l.
+        gained c l ∙ ap₂ bit_xor (d.at c l) (ap (λ z. get_or z c 0) read ∙ part_read source n w w c refl l) ∙ xor_assoc (get_or e c 0) _ _
+        ∙ ap (bit_xor (get_or e c 0)) (sym (more 1 h c ∙ ap (bit_xor _) (one-mul _)));
+  }
 
 -- the first n rows of t are those of e with the selected rows of s added
 pub record RowsDone (m w : ℕ) (columns s : List ℕ) (n : ℕ) (e t : List ℕ) : Type 0 where

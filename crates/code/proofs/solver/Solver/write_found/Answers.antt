@@ -15,7 +15,7 @@ write_packet-requires g c =
     let v = c.loop-at.invariant in
     let p = c.positions.ensures in
     let (item, step) = c.in-Some.ensures.steps in
-    let turn = lost_turn (packet_of s) (packet_pos s) c.args.self.now.losses.now c.args.work.now (C.parity + 1) n c.requires.work _ p.value p.len p.at _ _ _ _ _ _ _ v.places item v.size v.packets step.1 in
+    let turn = lost_turn (packet_pos s) c.requires.work v.turn _ p.value p.len p.at _ _ _ _ _ item step in
     record {
       block = c.loop-at.auto.block ∙ c.requires.block;
       position = let at = turn.at in let h = c.args.self.now.below n turn.listed in omega arith;
@@ -31,12 +31,9 @@ loop-at-preserved g c =
     let v = c.loop-at.invariant in
     let p = c.positions.ensures in
     let (item, step) = c.in-Some.ensures.steps in
-    let turn = lost_turn (packet_of s) (packet_pos s) l c.args.work.now (C.parity + 1) n c.requires.work _ p.value p.len p.at _ _ _ _ _ _ _ v.places item v.size v.packets step.1 in
+    let turn = lost_turn (packet_pos s) c.requires.work v.turn _ p.value p.len p.at _ _ _ _ _ item step in
     rw (length-append c.loop-at.yielded ((c.in-Some.at, c.in-Some.packet) ∷ [])) record {
-      places = turn.places;
-      size = step.0 ∙ v.size;
-      packets = turn.packet.left;
-      within = let lt = turn.listed in omega arith;
+      turn = turn.next;
       written = written_more C l c.args.work.now _ n c.loop-at.block _ turn.listed
           (λ i k h m. ap (λ q. block_at C c.write_packet.new.block q i k) (sym turn.at) ∙ c.write_packet.ensures.at i k h m
           ∙ ap (λ r. packet_in s.words r i k) turn.packet.is ∙ entry_read C n (packet_of s) c.args.work.now refl i k h m)
@@ -50,6 +47,6 @@ returns g c =
     let l = c.args.self.now.losses.now in
     let v = c.loop-at.invariant in
     let p = c.positions.ensures in
-    let done = lost_done (packet_of s) (packet_pos s) l c.args.work.now (C.parity + 1) (length c.loop-at.yielded) c.requires.work _ p.value p.len _ _ v.places v.packets v.within (let k = c.args.self.now.solvable.few in omega arith) in
+    let done = lost_done (packet_pos s) c.requires.work v.turn _ p.value p.len (let k = c.args.self.now.solvable.few in omega arith) in
     let all : length c.loop-at.yielded ≡ l.len = elim c.in-None.ensures.steps [ inl a ↦ done (inl a.1.0) | inr b ↦ done (inr b.1.1.0) ] in
     rw all at v.written
