@@ -1,14 +1,13 @@
 -- What adding packets to the sums keeps from turn to turn.
 use Rattle.std.proofs.Common.{◌≡◌, ℕ, ◌+◌, ◌*◌, ◌<◌, ◌≤◌, List, length, sym, refl, ap, ◌∙◌, ap₂, add-one, arith}
 use native.Mathlib.Decide.{ℕ_discrete}
-use borrow.Rule.Slice.PartMut.{put_mid}
 use lib.Bits.{bit_xor, xor_zero_r}
 use Rattle.galois.specs.Field.{power}
 use Rattle.algebra.specs.Code.{Packet, Block, SamePacket, ZeroPacket, scaled, xors, Code}
 use Rattle.algebra.proofs.Words.{xors_none, scaled_same, scaled_zero}
 use Rattle.layout.specs.Blocks.{packet_in, block_at, ZeroRun, size_of}
 use Rattle.code.specs.Sums.{Absorbed, Shared, SumsTo}
-use Rattle.layout.proofs.Entries.{entry_written, entry_kept}
+use Rattle.code.specs.Packets.{PacketWritten}
 
 module _ (C : Code) (first x : ℕ) (p : Packet) (e : List ℕ) where
   pub absorbed_none : Absorbed C first first x p e e
@@ -19,17 +18,16 @@ module _ (C : Code) (first x : ℕ) (p : Packet) (e : List ℕ) where
   }
 
   -- sum n is written
-  pub absorbed_more : (n v k : ℕ) (t y : List ℕ) → v ≡ size_of C → k ≡ v → first ≤ n → n < C.parity → n * v + v ≤ length t → length y ≡ v
+  pub absorbed_more : {n : ℕ} {y t t' : List ℕ} → first ≤ n → n < C.parity → PacketWritten C n y t t'
       → SamePacket C (packet_in C.words y) (λ i c. bit_xor (block_at C t n i c) (scaled C (power C.product x n) p i c))
-      → Absorbed C first n x p e t → Absorbed C first (n + 1) x p e (put_mid (n * v) k t y)
-  absorbed_more n v k t y ev size from lt fits long here d = record {
+      → Absorbed C first n x p e t → Absorbed C first (n + 1) x p e t'
+  absorbed_more {n} from lt w here d = record {
     at = λ μ h l i c a b. elim (ℕ_discrete μ n) [
-      | yes q ↦ rw q (entry_written C n v t ev k y size fits long i c a b ∙ here i c a b
-          ∙ ap (λ u. bit_xor u (scaled C (power C.product x n) p i c)) (d.above n (omega arith) lt i c a b))
-      | no q ↦ entry_kept C n v t ev k y size fits long μ q i c a b ∙ d.at μ h (omega arith) i c a b
+      | yes q ↦ rw q (w.at i c a b ∙ here i c a b ∙ ap (λ u. bit_xor u (scaled C (power C.product x n) p i c)) (d.above n (omega arith) lt i c a b))
+      | no q ↦ w.off μ q i c a b ∙ d.at μ h (omega arith) i c a b
     ];
-    below = λ μ h i c a b. entry_kept C n v t ev k y size fits long μ (λ q. omega arith) i c a b ∙ d.below μ h i c a b;
-    above = λ μ h l i c a b. entry_kept C n v t ev k y size fits long μ (λ q. omega arith) i c a b ∙ d.above μ (omega arith) l i c a b;
+    below = λ μ h i c a b. w.off μ (λ q. omega arith) i c a b ∙ d.below μ h i c a b;
+    above = λ μ h l i c a b. w.off μ (λ q. omega arith) i c a b ∙ d.above μ (omega arith) l i c a b;
   }
 
 module _ (C : Code) (b : Block) where

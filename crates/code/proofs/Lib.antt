@@ -1,4 +1,5 @@
 pub mod Rows
+pub mod Ranges
 pub mod Absorbs
 pub mod Stages
 pub mod Backs

@@ -1,8 +1,8 @@
 -- Packets added to packets: words, rows that a matrix selects, and multiples by field elements.
-use Rattle.std.specs.Prelude.{◌≡◌, ℕ, ◌*◌, ◌^◌, ◌<◌, List, length, bit_xor, slice_index}
+use Rattle.std.specs.Prelude.{◌≡◌, ℕ, ◌+◌, ◌*◌, ◌^◌, ◌<◌, List, length, bit_xor, slice_index}
 use Rattle.algebra.specs.Code.{Code, Packet, SamePacket, scaled, xors, bit}
 use Rattle.layout.specs.declared.shape.Shape.{Shape}
-use Rattle.layout.specs.Blocks.{packet_in, block_at}
+use Rattle.layout.specs.Blocks.{packet_in, block_at, size_of}
 
 -- two packets added, word by word
 abbrev pub plus : Packet → Packet → Packet
@@ -35,6 +35,11 @@ AddedRows s columns source before after =
 abbrev pub AddedTimes : Code → ℕ → List ℕ → List ℕ → List ℕ → Type 0
 AddedTimes C a source before after =
     SamePacket C (packet_in C.words after) (plus (packet_in C.words before) (scaled C a (packet_in C.words source)))
+
+-- packet i of a run lies from word a up to word b
+pub record PacketRange (C : Code) (i a b : ℕ) : Type 0 where
+  pub start : a ≡ i * size_of C
+  pub end : b ≡ i * size_of C + size_of C
 
 -- the packet at a position of a block is another now, and the others are as they were
 pub record PacketWritten (C : Code) (position : ℕ) (packet before after : List ℕ) : Type 0 where

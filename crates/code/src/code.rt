@@ -13,6 +13,7 @@ use layout::runs::clear;
 use layout::shape::{LONGEST, Shape};
 use refusal::Refusal;
 use std::marker::PhantomData;
+use std::ops::Range;
 
 /// A shape whose rows are as many as the arithmetic is wide. Made once, it serves any number of blocks.
 #[derive(Drop)]
@@ -23,7 +24,7 @@ pub struct Code<F: Arithmetic> {
 }
 
 impl<F: Arithmetic> Code<F> {
-    ghost use Rattle.code.specs.Packets.{AddedTimes, PacketWritten};
+    ghost use Rattle.code.specs.Packets.{AddedTimes, PacketRange, PacketWritten};
     ghost use Rattle.code.specs.Sums.{AbsorbedFrom, FirstNonzero, Gained};
     ghost use Rattle.code.specs.Lost.{Contradicts};
     ghost use Rattle.code.specs.Held.{Filled};
@@ -44,6 +45,15 @@ impl<F: Arithmetic> Code<F> {
         })
     }
 
+    // Where packet `i` of a run lies.
+    pub(crate) fn range(&self, i: usize) -> Range<usize>
+        requires { i < (code self.now).positions }
+        ensures { PacketRange (code self.now) i result.start result.end }
+    {
+        let p = self.shape.packet();
+        i * p..i * p + p
+    }
+
     // Adds `a` times the packet `source` to the packet `target`.
     pub(crate) fn add_times(&self, a: u32, source: &[u32], target: &mut [u32])
         requires target { length target.old ≡ size_of (code self.now) }
@@ -62,12 +72,11 @@ impl<F: Arithmetic> Code<F> {
         requires element { x < 2 ^ F.Arithmetic.bits }
         ensures { AbsorbedFrom (code self.now) first x packet.now sums.old sums.new }
     {
-        let p = self.shape.packet();
         // There are no more than 32 sums, so `as` keeps the number.
         let mut a = raise::<F>(x, first as u32);
         // By number: of a run that `chunks_mut` lent, only the length is known afterwards.
         for sum in first..self.shape.parity() {
-            self.add_times(a, packet, &mut sums[sum * p..sum * p + p]);
+            self.add_times(a, packet, &mut sums[self.range(sum)]);
             a = F::product(x, a);
         }
     }
@@ -111,8 +120,7 @@ impl<F: Arithmetic> Code<F> {
         requires packet { length packet.now ≡ size_of (code self.now) }
         ensures { PacketWritten (code self.now) position packet.now block.old block.new }
     {
-        let p = self.shape.packet();
-        block[position * p..position * p + p].copy_from_slice(packet);
+        block[self.range(position)].copy_from_slice(packet);
     }
 
     // Finds the parity packets as packets that are lost.

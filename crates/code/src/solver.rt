@@ -76,10 +76,9 @@ impl<'a, F: Arithmetic> Solver<'a, F> {
         requires from { from < (code_in self.now).parity }
         ensures { Stepped (code_in self.now) (a % 2 ^ F.Arithmetic.bits) to from sums.old sums.new }
     {
-        let p = self.code.shape.packet();
-        scratch.copy_from_slice(&sums[from * p..from * p + p]);
+        scratch.copy_from_slice(&sums[self.code.range(from)]);
         self.code
-            .add_times(a, scratch, &mut sums[to * p..to * p + p]);
+            .add_times(a, scratch, &mut sums[self.code.range(to)]);
     }
 
     // The forward steps: stage j adds x_j times each sum to the next, from the last one down to sum j.
@@ -133,17 +132,16 @@ impl<'a, F: Arithmetic> Solver<'a, F> {
         ensures keeps { Backward self.now n sums.old sums.new }
         ensures off { Behind self.now sums.old sums.new }
     {
-        let p = self.code.shape.packet();
-        scratch.copy_from_slice(&sums[n * p..n * p + p]);
+        scratch.copy_from_slice(&sums[self.code.range(n)]);
         self.keep_first(sums, n);
         // By number, as the gap is; and of a run that `chunks_mut` lent, only the length is known afterwards.
         for j in 0..n {
             let theta = F::inverse(self.gap(j, n));
             self.code
-                .add_times(theta, scratch, &mut sums[j * p..j * p + p]);
+                .add_times(theta, scratch, &mut sums[self.code.range(j)]);
         }
-        scratch.copy_from_slice(&sums[0..p]);
-        add_words(&mut sums[n * p..n * p + p], scratch);
+        scratch.copy_from_slice(&sums[self.code.range(0)]);
+        add_words(&mut sums[self.code.range(n)], scratch);
     }
 
     // Turns the first sums, as many as are lost, into the lost packets.
@@ -166,12 +164,11 @@ impl<'a, F: Arithmetic> Solver<'a, F> {
         requires scratch { Scratch self.now scratch.old }
         ensures { AddsFound self.now sums.old sums.new }
     {
-        let p = self.code.shape.packet();
         // By number, each by way of scratch: `add_packet` takes the whole run, in which the packets found lie too. Over the sums behind
         // them it would have to be told which sum is the first.
         let t = self.count();
         for s in 0..t {
-            scratch.copy_from_slice(&sums[s * p..s * p + p]);
+            scratch.copy_from_slice(&sums[self.code.range(s)]);
             self.code.add_packet(sums, t, self.nodes[s], scratch);
         }
     }

@@ -1,73 +1,61 @@
-use Rattle.std.proofs.Common.{◌≡◌, ◌+◌, ◌-◌, ◌*◌, ◌%◌, ◌^◌, ◌<◌, ◌≤◌, length, refl, ap, ◌∙◌, ap₂, mod-lt, mod-eq_of_lt, arith, pow_pos}
+use Rattle.std.proofs.Common.{◌≡◌, ◌+◌, ◌-◌, ◌*◌, ◌%◌, ◌^◌, ◌<◌, ap, ◌∙◌, ap₂, mod-lt, mod-eq_of_lt, arith, pow_pos}
 use lib.Bits.{bit_xor}
 use Rattle.algebra.specs.Code.{scaled}
 use Rattle.algebra.specs.Laws.{gap}
 use Rattle.algebra.specs.Loops.{theta}
 use Rattle.algebra.specs.Grids.{grid_ops}
 use Rattle.layout.specs.Blocks.{code_of, packet_in}
-use Rattle.layout.proofs.Places.{part_ends}
-use Rattle.layout.proofs.Parts.{part_length}
+use Rattle.layout.proofs.Entries.{word_lt}
 use Rattle.code.specs.Solving.{node_at}
-use Rattle.layout.proofs.Entries.{word_lt, entry_read, first_read, entry_written, entry_kept}
 use Rattle.code.proofs.Backs.{Cleared, factor, gap_is, cleared_none, cleared_more, cleared_all}
+use Rattle.code.proofs.Ranges.{range_read, range_written}
 use Rattle.code.proofs.solver.Solver.backward.Goals as goal
 
 pub loop-j-preserved : goal.loop-j-preserved
 unfolding theta
 loop-j-preserved g c = λ e d.
     let f = g.F.Arithmetic in
-    let field = g.met.F.Arithmetic.field in
     let s = c.args.self.now.code.now.shape in
-    let C = code_of s g.F.Arithmetic.prod in
+    let C = code_of s f.prod in
     let x = c.args.self.now.nodes in
     let n = c.args.n in
     let j = c.loop-j.j in
-    let p = c.packet-p.result in
     let t = c.loop-j.sums in
     let z = packet_in s.words c.copy_from_slice.new.self in
-    let size = c.packet-p.ensures.value in
     let v = c.args.self.now.solvable in
-    let within : j < C.parity = let h = c.requires.n in let k = c.args.self.now.solvable.few in let l = c.loop-j-test.true in omega arith in
-    let fits : j * p + p ≤ length t = part_ends j _ p refl size (c.loop-j.auto.sums ∙ c.keep_first.auto.sums ∙ c.requires.sums) within in
-    let long = part_length t j p fits in
-    let y = c.add_times.new.target in
+    let within : j < C.parity = let h = c.requires.n in let k = v.few in let l = c.loop-j-test.true in omega arith in
+    let w = range_written c.range-in-loop-j.ensures t (c.loop-j.auto.sums ∙ c.keep_first.auto.sums ∙ c.requires.sums) within c.add_times.new.target c.add_times.auto.target in
     let gapped : c.gap.result % 2 ^ f.bits ≡ gap (grid_ops C f.inv) (node_at x) j (n - j) (node_at x n) =
     mod-eq_of_lt c.gap.ensures.element ∙ c.gap.ensures.value ∙ gap_is C f.inv (node_at x) j (n - j) (node_at x n) in
     let is : c.inverse-theta.result ≡ factor C f.inv x n j = c.inverse-theta.ensures ∙ ap f.inv gapped in
-    let lt : c.inverse-theta.result < 2 ^ f.bits = rw c.inverse-theta.ensures (field.inverse_lt _ (mod-lt c.gap.result (pow_pos f.bits))) in
+    let lt : c.inverse-theta.result < 2 ^ f.bits = rw c.inverse-theta.ensures (g.met.F.Arithmetic.field.inverse_lt _ (mod-lt c.gap.result (pow_pos f.bits))) in
     cleared_more v n z c.requires.some c.requires.n j e t _ c.loop-j-test.true
-    (λ i k h l. entry_written C j p t size _ y (omega arith) fits (omega arith) i k h l ∙ c.add_times.ensures i k h l
-    ∙ ap₂ (λ a b. bit_xor a (scaled C b z i k)) (entry_read C j p t size i k h l) (mod-eq_of_lt lt ∙ is))
-    (λ μ _ q i k h l. entry_kept C j p t size _ y (omega arith) fits (omega arith) μ q i k h l)
-    (c.loop-j.invariant e d)
+    (λ i k h l. w.at i k h l ∙ c.add_times.ensures i k h l
+    ∙ ap₂ (λ a b. bit_xor a (scaled C b z i k)) (range_read c.range-in-loop-j.ensures t i k h l) (mod-eq_of_lt lt ∙ is))
+    (λ μ _. w.off μ) (c.loop-j.invariant e d)
 
 pub returns : goal.returns
 returns g c =
     let f = g.F.Arithmetic in
     let s = c.args.self.now.code.now.shape in
-    let C = code_of s g.F.Arithmetic.prod in
+    let C = code_of s f.prod in
     let x = c.args.self.now.nodes in
     let n = c.args.n in
-    let p = c.packet-p.result in
     let e = c.args.sums.now in
     let u = c.loop-j.sums in
     let z = packet_in s.words c.copy_from_slice.new.self in
-    let size = c.packet-p.ensures.value in
     let v = c.args.self.now.solvable in
-    let within : n < C.parity = let h = c.requires.n in let k = c.args.self.now.solvable.few in omega arith in
-    let fits : n * p + p ≤ length u = part_ends n _ p refl size (c.loop-j.auto.sums ∙ c.keep_first.auto.sums ∙ c.requires.sums) within in
-    let long = part_length u n p fits in
-    let y = c.add_words.new.target in
+    let within : n < C.parity = let h = c.requires.n in let k = v.few in omega arith in
+    let w = range_written c.range-3.ensures u (c.loop-j.auto.sums ∙ c.keep_first.auto.sums ∙ c.requires.sums) within c.add_words.new.target c.add_words.auto.target in
     let all : c.loop-j.j ≡ n = omega arith in
     let started : Cleared C f.inv x c.args.self.now.losses.now.len n z 0 e c.keep_first.new.sums =
     cleared_none v n z c.requires.some c.requires.n e c.keep_first.new.sums
-    (λ i k h l. ap (λ r. packet_in s.words r i k) c.copy_from_slice.ensures.after ∙ entry_read C n p e size i k h l) c.keep_first.ensures in
+    (λ i k h l. ap (λ r. packet_in s.words r i k) c.copy_from_slice.ensures.after ∙ range_read c.range.ensures e i k h l) c.keep_first.ensures in
     let d : Cleared C f.inv x c.args.self.now.losses.now.len n z n e u = rw all at (c.loop-j.invariant e started) in
     record {
       keeps = cleared_all v n z c.requires.some c.requires.n e u _ d
-          (λ i k h l. entry_written C n p u size _ y (omega arith) fits (omega arith) i k h l
-          ∙ c.add_words.ensures (i * s.words + k) (let w = word_lt C i k h l in omega arith)
-          ∙ ap₂ bit_xor (entry_read C n p u size i k h l) (ap (λ r. packet_in s.words r i k) c.copy_from_slice-2.ensures.after ∙ first_read C n p u size i k h l))
-          (λ μ _ q i k h l. entry_kept C n p u size _ y (omega arith) fits (omega arith) μ q i k h l);
-      off = λ μ h k i b a q. entry_kept C n p u size _ y (omega arith) fits (omega arith) μ (λ r. let m = c.requires.n in omega arith) i b a q ∙ d.off μ h k i b a q;
+          (λ i k h l. w.at i k h l ∙ c.add_words.ensures (i * s.words + k) (let w = word_lt C i k h l in omega arith)
+          ∙ ap₂ bit_xor (range_read c.range-3.ensures u i k h l) (ap (λ r. packet_in s.words r i k) c.copy_from_slice-2.ensures.after ∙ range_read c.range-2.ensures u i k h l))
+          (λ μ _. w.off μ);
+      off = λ μ h k i b a q. w.off μ (λ r. let m = c.requires.n in omega arith) i b a q ∙ d.off μ h k i b a q;
     }
