@@ -3,7 +3,6 @@ pub mod Ranges
 pub mod Absorbs
 pub mod Stages
 pub mod Backs
-pub mod Copies
 pub mod Chunks
 pub mod FromFn
 pub mod Nonzero

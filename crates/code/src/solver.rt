@@ -119,8 +119,7 @@ impl<'a, F: Arithmetic> Solver<'a, F> {
         requires some { 1 ≤ n }
         ensures { Copied (code_in self.now) n 0 sums.old sums.new }
     {
-        let p = self.code.shape.packet();
-        sums.copy_within(0..p, n * p);
+        sums.copy_within(self.code.range(0), self.code.range(n).start);
     }
 
     // One backward step: finds packet `n`, the last that is not found yet, and takes it out of the sums before it.
