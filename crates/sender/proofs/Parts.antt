@@ -13,7 +13,7 @@ use Rattle.layout.proofs.Passes.{pass_both, run_ok, run_passes}
 use Rattle.refusal.specs.Numbers.{or_else}
 use Rattle.layout.specs.Blocks.{code_of}
 use Rattle.code.specs.Calls.{Encoded, encode_refusal}
-use Rattle.code.proofs.Chunks.{ChunkTurn, chunk_turn}
+use Rattle.code.proofs.Chunks.{ChunkTurn, chunk_turn, ChunksAt}
 use Rattle.sender.specs.Prepared.{part, Prepared, runs_refusal}
 
 module _ (w n k : ℕ) (xs ys : List ℕ) (size : k ≡ w) (within : n * w + w ≤ length xs) (long : length ys ≡ w) where
@@ -44,22 +44,25 @@ module _ (s : Shape) where
   runs_pass image parity e = let (first, second) = both_pass _ _ e in (run_passes s _ image 0 first, run_passes s _ parity 1 second)
 
   -- block number n, with source packets x, comes from an iterator over the blocks of an image
-  pub record BlockTurn (image parity : List ℕ) (n w : ℕ) (x next : List ℕ) : Type 0 where
-    pub source : ChunkTurn (s.sources * packet_of s) image s.blocks n x next
+  pub record BlockTurn (image parity : List ℕ) (n size w : ℕ) (x next : List ℕ) : Type 0 where
+    pub source : ChunkTurn (s.sources * packet_of s) image s.blocks n size x next
     pub end : n * w + w ≤ length parity
 
-  pub block_turn : (image parity : List ℕ) (n size w : ℕ) (left x next : List ℕ)
+  pub sources_pos : 1 ≤ s.sources * packet_of s
+  sources_pos = mul-le 1 1 s.sources (packet_of s) s.counts.0 (packet_pos s)
+
+  pub block_turn : (image parity : List ℕ) (n size size' w : ℕ) (left x next : List ℕ)
       → Packets s (s.blocks * s.sources) image → Packets s (s.blocks * parity_of s) parity
-      → size ≡ s.sources * packet_of s → w ≡ parity_of s * packet_of s → left ≡ drop (n * (s.sources * packet_of s)) image
-      → (left ≡ x ++ next) × (length x ≡ min size (length left)) × (0 < length left) → BlockTurn image parity n w x next
-  block_turn image parity n size w left x next whole fits same of at step =
-      let turn = chunk_turn (s.sources * packet_of s) image s.blocks n size left x next (mul-le 1 1 s.sources (packet_of s) s.counts.0 (packet_pos s)) (parts_long s.sources image whole) same at step in
+      → w ≡ parity_of s * packet_of s → ChunksAt (s.sources * packet_of s) image s.blocks n size left
+      → (size' ≡ size) × ((left ≡ x ++ next) × (length x ≡ min size (length left)) × (0 < length left)) → BlockTurn image parity n size' w x next
+  block_turn image parity n size size' w left x next whole fits of at step =
+      let turn = chunk_turn sources_pos (parts_long s.sources image whole) at x next step in
       record { source = turn; end = part_ends n s.blocks w refl of (parts_long (parity_of s) parity fits) turn.lt }
 
   -- its encoding is not refused
-  pub encodes : (image parity : List ℕ) (n w : ℕ) (x next : List ℕ) → w ≡ parity_of s * packet_of s
-      → BlockTurn image parity n w x next → encode_refusal s x (part w parity n) ≡ None
-  encodes image parity n w x next of turn =
+  pub encodes : (image parity : List ℕ) (n size w : ℕ) (x next : List ℕ) → w ≡ parity_of s * packet_of s
+      → BlockTurn image parity n size w x next → encode_refusal s x (part w parity n) ≡ None
+  encodes image parity n size w x next of turn =
       pass_both _ _ (run_ok s s.sources x 0 turn.source.long) (run_ok s (parity_of s) _ 1 (part_length parity n w turn.end ∙ of))
 
   -- the parity of one block more

@@ -1,6 +1,5 @@
 use Rattle.std.proofs.Math.Facts.{Fits-lt-pow}
-use Rattle.std.proofs.Common.{◌≡◌, ◌+◌, [], ◌∷◌, length, ap, ◌∙◌, subst, add-one, inl, inr, arith, length-append}
-use Rattle.layout.specs.Sizes.{parity_of, packet_of}
+use Rattle.std.proofs.Common.{◌≡◌, [], ◌∷◌, length, ap, ◌∙◌, subst, inl, inr, arith, length-append}
 use Rattle.layout.proofs.Blocks.{packet_pos}
 use Rattle.layout.proofs.Passes.{passed}
 use Rattle.store.specs.Grids.{Filled, put_refusal}
@@ -16,7 +15,7 @@ returns-in_err-put-clause-put g c =
     let v = c.loop-at.invariant in
     let p = c.positions.ensures in
     let (item, step) = c.in-Some.ensures.steps in
-    let turn = lost_turn (packet_of s) (packet_pos s) l c.args.work.now (parity_of s + 1) n c.requires.work _ p.value p.len p.at _ _ _ _ _ _ _ v.places item v.size v.packets step.1 in
+    let turn = lost_turn (packet_pos s) c.requires.work v.turn _ p.value p.len p.at _ _ _ _ _ item step in
     passed _ _ (put_passes s l c.args.block c.args.work.now _ c.requires.lacks n c.in-Some.packet.now _ turn.listed turn.packet.long v.put)
     (c.in_err-put.ensures.answer ∙ ap (λ q. put_refusal (g.S.SlotStore.grid c.loop-at.store) c.args.block q c.in-Some.packet.now) turn.at)
 
@@ -29,13 +28,10 @@ loop-at-preserved g c =
     let v = c.loop-at.invariant in
     let p = c.positions.ensures in
     let (item, step) = c.in-Some.ensures.steps in
-    let turn = lost_turn (packet_of s) (packet_pos s) l c.args.work.now (parity_of s + 1) n c.requires.work _ p.value p.len p.at _ _ _ _ _ _ _ v.places item v.size v.packets step.1 in
+    let turn = lost_turn (packet_pos s) c.requires.work v.turn _ p.value p.len p.at _ _ _ _ _ item step in
     let h = c.in_ok-put.ensures in
     rw (length-append c.loop-at.yielded ((c.in-Some.at, c.in-Some.packet) ∷ [])) record {
-      places = turn.places;
-      size = step.0 ∙ v.size;
-      packets = turn.packet.left;
-      within = rw (add-one n) turn.listed;
+      turn = turn.next;
       put = put_more s l c.args.block c.args.work.now _ n c.in-Some.packet.now (T.grid c.loop-at.store) (T.grid c.put.new.self) turn.listed turn.packet.is v.put
           (subst (λ q. Filled (T.grid c.loop-at.store) c.args.block q c.in-Some.packet.now (T.grid c.put.new.self)) turn.at h.after);
       kept = h.kept ∙ v.kept;
@@ -48,6 +44,6 @@ returns g c =
     let l = c.args.losses.now in
     let v = c.loop-at.invariant in
     let p = c.positions.ensures in
-    let done = lost_done (packet_of s) (packet_pos s) l c.args.work.now (parity_of s + 1) (length c.loop-at.yielded) c.requires.work _ p.value p.len _ _ v.places v.packets v.within (let k = c.requires.lacks.missing.few in omega arith) in
+    let done = lost_done (packet_pos s) c.requires.work v.turn _ p.value p.len (let k = c.requires.lacks.missing.few in omega arith) in
     let all : length c.loop-at.yielded ≡ l.len = elim c.in-None.ensures.steps [ inl a ↦ done (inl a.1.0) | inr b ↦ done (inr b.1.1.0) ] in
     record { put = rw all at v.put; words = λ k. Fits-lt-pow (c.type_inv.work k); kept = v.kept; shut = v.shut }

@@ -1,5 +1,6 @@
-use Rattle.std.proofs.Common.{◌≡◌, ◌*◌, ◌≤◌, length, drop}
+use Rattle.std.proofs.Common.{◌≡◌, ◌*◌, length}
 use Rattle.layout.specs.Sizes.{packet_of}
+use Rattle.code.proofs.Chunks.{ChunksAt}
 use Rattle.sender.specs.Prepared.{Prepared}
 use Rattle.sender.proofs.prepare.prepare.Given as goal
 
@@ -9,8 +10,6 @@ invariant-loop-block g l =
     let n = length l.yielded in
     record {
       count : l.block-iterator.count ≡ n;
-      within : n ≤ s.blocks;
-      size : l.block-iterator.iter.size ≡ s.sources * packet_of s;
-      left : l.block-iterator.iter.rest.now ≡ drop (n * (s.sources * packet_of s)) l.image;
+      chunks : ChunksAt (s.sources * packet_of s) l.image s.blocks n l.block-iterator.iter.size l.block-iterator.iter.rest.now;
       prepared : Prepared s g.F.Arithmetic.prod l.image l.parity n;
     }
