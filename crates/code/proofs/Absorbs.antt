@@ -1,11 +1,11 @@
 -- What adding packets to the sums keeps from turn to turn.
-use Rattle.std.proofs.Common.{◌≡◌, ℕ, ◌+◌, ◌*◌, ◌<◌, ◌≤◌, List, length, sym, refl, ap, ◌∙◌, ap₂, add-one, arith}
+use Rattle.std.proofs.Common.{ℕ, ◌+◌, ◌*◌, ◌<◌, ◌≤◌, List, sym, refl, ap, ◌∙◌, ap₂, add-one, arith}
 use native.Mathlib.Decide.{ℕ_discrete}
 use lib.Bits.{bit_xor, xor_zero_r}
 use Rattle.galois.specs.Field.{power}
 use Rattle.algebra.specs.Code.{Packet, Block, SamePacket, ZeroPacket, scaled, xors, Code}
 use Rattle.algebra.proofs.Words.{xors_none, scaled_same, scaled_zero}
-use Rattle.layout.specs.Blocks.{packet_in, block_at, ZeroRun, size_of}
+use Rattle.layout.specs.Blocks.{packet_in, block_at, ZeroRun}
 use Rattle.code.specs.Sums.{Absorbed, Shared, SumsTo}
 use Rattle.code.specs.Packets.{PacketWritten}
 

@@ -4,7 +4,7 @@ use native.Mathlib.Decide.{ℕ_discrete}
 use borrow.Rule.Slice.PartMut.{put_mid}
 use Rattle.std.specs.List.{between}
 use lib.Bits.{bit_xor, bit_and, and_mask, xor_assoc, xor_zero_r}
-use Rattle.algebra.specs.Code.{Packet, xors, bit}
+use Rattle.algebra.specs.Code.{xors, bit}
 use Rattle.layout.specs.Blocks.{packet_in}
 use Rattle.code.specs.Packets.{selected}
 use Rattle.layout.proofs.Parts.{part_written, part_kept, part_read}

@@ -32,7 +32,7 @@ pub(crate) struct Solver<'a, F: Arithmetic> {
 }
 
 impl<'a, F: Arithmetic> Solver<'a, F> {
-    ghost use Rattle.code.specs.Solving.{Copied, Stepped};
+    ghost use Rattle.code.specs.Solving.{Stepped};
     ghost use Rattle.code.specs.Rebuilt.{Solved};
     ghost use Rattle.code.specs.Lost.{FoundLost};
     ghost use Rattle.code.specs.Written.{Written};
@@ -112,16 +112,6 @@ impl<'a, F: Arithmetic> Solver<'a, F> {
         product
     }
 
-    // Copies sum 0 to sum `n`.
-    fn keep_first(&self, sums: &mut [u32], n: usize)
-        requires sums { SumsRun self.now sums.old }
-        requires n { n < (code_in self.now).parity }
-        requires some { 1 ≤ n }
-        ensures { Copied (code_in self.now) n 0 sums.old sums.new }
-    {
-        sums.copy_within(self.code.range(0), self.code.range(n).start);
-    }
-
     // One backward step: finds packet `n`, the last that is not found yet, and takes it out of the sums before it.
     fn backward(&self, n: usize, sums: &mut [u32], scratch: &mut [u32])
         requires sums { SumsRun self.now sums.old }
@@ -132,8 +122,8 @@ impl<'a, F: Arithmetic> Solver<'a, F> {
         ensures off { Behind self.now sums.old sums.new }
     {
         scratch.copy_from_slice(&sums[self.code.range(n)]);
-        self.keep_first(sums, n);
-        // By number, as the gap is; and of a run that `chunks_mut` lent, only the length is known afterwards.
+        // In place of sum n stands sum 0 as it is now: with what sum 0 becomes added to it, it is packet n.
+        sums.copy_within(self.code.range(0), self.code.range(n).start);
         for j in 0..n {
             let theta = F::inverse(self.gap(j, n));
             self.code

@@ -1,6 +1,6 @@
 use Rattle.std.proofs.Common.{◌≡◌, [], ◌∷◌, length, sym, ap, ◌∙◌, inl, inr, arith, rules, length-append, length-drop}
 use Rattle.code.proofs.Chunks.{item_turn, chunk_turn, chunks_done}
-use Rattle.code.proofs.Rows.{RowAt, row_none, row_left, row_added}
+use Rattle.code.proofs.Rows.{row_none, row_left, row_added}
 use Rattle.code.proofs.packet.add_selected.Goals as goal
 
 pub loop-column-init : goal.loop-column-init

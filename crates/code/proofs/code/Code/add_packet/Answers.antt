@@ -1,4 +1,4 @@
-use Rattle.std.proofs.Common.{◌+◌, ◌^◌, ◌<◌, sym, ap, ◌∙◌, ap₂, mod-eq_of_lt, add-one, arith}
+use Rattle.std.proofs.Common.{◌^◌, ◌<◌, sym, ap, ◌∙◌, ap₂, mod-eq_of_lt, add-one, arith}
 use lib.Bits.{bit_xor}
 use Rattle.galois.specs.Field.{power}
 use Rattle.galois.proofs.Powers.{power_lt}

@@ -1,4 +1,4 @@
-use Rattle.std.proofs.Common.{◌≡◌, ◌+◌, sym, refl, ap, ◌∙◌, arith}
+use Rattle.std.proofs.Common.{sym, refl, ap, ◌∙◌, arith}
 use Rattle.layout.specs.Sizes.{packet_of}
 use Rattle.layout.specs.Blocks.{packet_in, code_of}
 use Rattle.layout.proofs.Entries.{entry_read}

@@ -8,7 +8,7 @@ use Rattle.layout.specs.Blocks.{code_of, packet_in}
 use Rattle.layout.proofs.Entries.{word_lt}
 use Rattle.code.specs.Solving.{node_at}
 use Rattle.code.proofs.Backs.{Cleared, factor, gap_is, cleared_none, cleared_more, cleared_all}
-use Rattle.code.proofs.Ranges.{range_read, range_written}
+use Rattle.code.proofs.Ranges.{range_read, range_written, range_copied}
 use Rattle.code.proofs.solver.Solver.backward.Goals as goal
 
 pub loop-j-preserved : goal.loop-j-preserved
@@ -24,7 +24,7 @@ loop-j-preserved g c = λ e d.
     let z = packet_in s.words c.copy_from_slice.new.self in
     let v = c.args.self.now.solvable in
     let within : j < C.parity = let h = c.requires.n in let k = v.few in let l = c.loop-j-test.true in omega arith in
-    let w = range_written c.range-in-loop-j.ensures t (c.loop-j.auto.sums ∙ c.keep_first.auto.sums ∙ c.requires.sums) within c.add_times.new.target c.add_times.auto.target in
+    let w = range_written c.range-in-loop-j.ensures t (c.loop-j.auto.sums ∙ c.copy_within.auto.self ∙ c.requires.sums) within c.add_times.new.target c.add_times.auto.target in
     let gapped : c.gap.result % 2 ^ f.bits ≡ gap (grid_ops C f.inv) (node_at x) j (n - j) (node_at x n) =
     mod-eq_of_lt c.gap.ensures.element ∙ c.gap.ensures.value ∙ gap_is C f.inv (node_at x) j (n - j) (node_at x n) in
     let is : c.inverse-theta.result ≡ factor C f.inv x n j = c.inverse-theta.ensures ∙ ap f.inv gapped in
@@ -46,16 +46,18 @@ returns g c =
     let z = packet_in s.words c.copy_from_slice.new.self in
     let v = c.args.self.now.solvable in
     let within : n < C.parity = let h = c.requires.n in let k = v.few in omega arith in
-    let w = range_written c.range-3.ensures u (c.loop-j.auto.sums ∙ c.keep_first.auto.sums ∙ c.requires.sums) within c.add_words.new.target c.add_words.auto.target in
+    let w = range_written c.range-5.ensures u (c.loop-j.auto.sums ∙ c.copy_within.auto.self ∙ c.requires.sums) within c.add_words.new.target c.add_words.auto.target in
+    let by = c.copy_within.ensures.by_index in
     let all : c.loop-j.j ≡ n = omega arith in
-    let started : Cleared C f.inv x c.args.self.now.losses.now.len n z 0 e c.keep_first.new.sums =
-    cleared_none v n z c.requires.some c.requires.n e c.keep_first.new.sums
-    (λ i k h l. ap (λ r. packet_in s.words r i k) c.copy_from_slice.ensures.after ∙ range_read c.range.ensures e i k h l) c.keep_first.ensures in
+    let started : Cleared C f.inv x c.args.self.now.losses.now.len n z 0 e c.copy_within.new.self =
+    cleared_none v n z c.requires.some c.requires.n e c.copy_within.new.self
+    (λ i k h l. ap (λ r. packet_in s.words r i k) c.copy_from_slice.ensures.after ∙ range_read c.range.ensures e i k h l)
+    (range_copied c.range-2.ensures c.range-3.ensures e c.copy_within.new.self by.0 by.1 by.2) in
     let d : Cleared C f.inv x c.args.self.now.losses.now.len n z n e u = rw all at (c.loop-j.invariant e started) in
     record {
       keeps = cleared_all v n z c.requires.some c.requires.n e u _ d
           (λ i k h l. w.at i k h l ∙ c.add_words.ensures (i * s.words + k) (let w = word_lt C i k h l in omega arith)
-          ∙ ap₂ bit_xor (range_read c.range-3.ensures u i k h l) (ap (λ r. packet_in s.words r i k) c.copy_from_slice-2.ensures.after ∙ range_read c.range-2.ensures u i k h l))
+          ∙ ap₂ bit_xor (range_read c.range-5.ensures u i k h l) (ap (λ r. packet_in s.words r i k) c.copy_from_slice-2.ensures.after ∙ range_read c.range-4.ensures u i k h l))
           (λ μ _. w.off μ);
       off = λ μ h k i b a q. w.off μ (λ r. let m = c.requires.n in omega arith) i b a q ∙ d.off μ h k i b a q;
     }

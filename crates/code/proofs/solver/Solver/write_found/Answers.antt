@@ -1,4 +1,4 @@
-use Rattle.std.proofs.Common.{◌≡◌, ◌+◌, [], ◌∷◌, length, sym, refl, ap, ◌∙◌, inl, inr, arith, length-append}
+use Rattle.std.proofs.Common.{◌≡◌, [], ◌∷◌, length, sym, refl, ap, ◌∙◌, inl, inr, arith, length-append}
 use Rattle.layout.specs.Sizes.{packet_of}
 use Rattle.layout.specs.Blocks.{block_at, packet_in, code_of}
 use Rattle.layout.proofs.Blocks.{packet_pos}
