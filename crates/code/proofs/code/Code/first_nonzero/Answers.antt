@@ -1,4 +1,4 @@
-use Rattle.std.proofs.Common.{◌≡◌, ◌+◌, sym, arith}
+use Rattle.std.proofs.Common.{◌≡◌, ◌+◌, arith}
 use Rattle.layout.specs.Blocks.{code_of}
 use Rattle.layout.proofs.Blocks.{packet_pos}
 use Rattle.code.proofs.Chunks.{chunk_turn, chunks_done}
