@@ -13,7 +13,7 @@ use Rattle.algebra.proofs.Sums.{sys_right, upd_at, upd_off}
 use Rattle.algebra.proofs.Loops.{taking_step, taken_step, taking_none, found_all, found_first}
 use Rattle.algebra.proofs.Bridge.{same_rows, bridge_scaled}
 use Rattle.layout.specs.Blocks.{block_at}
-use Rattle.code.specs.Solving.{node_at, Solvable, gap_of, entry, Untouched, Copied, SameSolutions, stage_of, found_of}
+use Rattle.code.specs.Solving.{locator_at, Solvable, gap_of, entry, Untouched, Copied, SameSolutions, stage_of, found_of}
 use Rattle.code.proofs.Stages.{laws}
 
 -- the product that the code computes is that of the solver
@@ -33,7 +33,7 @@ sys_left t S S' T e = (λ h m l. sym (e m l) ∙ h m l, λ h m l. e m l ∙ h m 
 
 -- the factor of entry j
 abbrev pub factor : Code → (ℕ → ℕ) → List ℕ → ℕ → ℕ → ℕ
-factor C inv x n j = theta (grid_ops C inv) (node_at x) n j
+factor C inv x n j = theta (grid_ops C inv) (locator_at x) n j
 
 module _ (C : Code) (inv : ℕ → ℕ) (x : List ℕ) (t n : ℕ) (z : Packet) where
   -- packet n, in z, has been taken out of the entries below j of e, and entry n is entry 0 of e
@@ -42,7 +42,7 @@ module _ (C : Code) (inv : ℕ → ℕ) (x : List ℕ) (t n : ℕ) (z : Packet) 
     pub fresh : j ≡ 0 → SamePacket C (block_at C u 0) (block_at C e 0)
     pub first : 0 < j → SamePacket C (block_at C u 0) (λ i c. bit_xor (block_at C e 0 i c) (scaled C (factor C inv x n 0) z i c))
     pub same : (I : ℕ → Grid C) → Sys t (entry C e) (found_of C inv x t n I)
-        ↔ Sys t (upd (entry C u) n (rows C z)) (taking (grid_xor C) (grid_ops C inv) (node_at x) n j I)
+        ↔ Sys t (upd (entry C u) n (rows C z)) (taking (grid_xor C) (grid_ops C inv) (locator_at x) n j I)
     pub off : Untouched C t e u
 
 module _ {C : Code} {inv : ℕ → ℕ} {x : List ℕ} {t : ℕ} (v : Solvable C inv x t) where
@@ -57,7 +57,7 @@ module _ {C : Code} {inv : ℕ → ℕ} {x : List ℕ} {t : ℕ} (v : Solvable C
             | yes q ↦ rw q (sym (upd_at (entry C u) n _ ∙ same_rows C _ _ saved))
             | no q ↦ sym (upd_off (entry C u) n _ m q ∙ same_rows C _ _ (d.off m (omega arith) q))
           ]))
-          (sys_right t _ _ _ (taking_none (laws v) (node_at x) v.elements t n I));
+          (sys_right t _ _ _ (taking_none (laws v) (locator_at x) v.elements t n I));
       off = λ μ h k. d.off μ k (λ q. omega arith);
     }
 
@@ -86,7 +86,7 @@ module _ {C : Code} {inv : ℕ → ℕ} {x : List ℕ} {t : ℕ} (v : Solvable C
             | yes q ↦ λ i c h l. (rw q at at) i c h l ∙ ap (λ a. bit_xor a (scaled C (factor C inv x n 0) z i c)) (d.fresh q i c h l)
             | no q ↦ λ i c h l. off 0 (omega arith) (λ r. omega arith) i c h l ∙ d.first (omega arith) i c h l
           ];
-          same = λ I. rw add-one (Iff.trans (d.same I) (taking_step (laws v) (node_at x) v.elements t n j v.apart lt within _ _ I step));
+          same = λ I. rw add-one (Iff.trans (d.same I) (taking_step (laws v) (locator_at x) v.elements t n j v.apart lt within _ _ I step));
           off = λ μ h k i c p q. off μ k (λ r. omega arith) i c p q ∙ d.off μ h k i c p q;
         }
 
@@ -111,16 +111,16 @@ module _ {C : Code} {inv : ℕ → ℕ} {x : List ℕ} {t : ℕ} (v : Solvable C
           off = λ m l q. same_rows C _ _ (off m (omega arith) q) ∙ sym (upd_off (entry C u) n (rows C z) m q);
         }
 
-        last : (k : ℕ) → n ≡ k → Sys t (upd (entry C u) n (rows C z)) (taking G O (node_at x) n n I) ↔ Sys t (entry C u') (found_of C inv x t (n - 1) I)
+        last : (k : ℕ) → n ≡ k → Sys t (upd (entry C u) n (rows C z)) (taking G O (locator_at x) n n I) ↔ Sys t (entry C u') (found_of C inv x t (n - 1) I)
         last zero q = absurd (omega arith)
         last (suc k) q =
             let p : n - 1 ≡ k = omega arith in
-            rw (p, q) (taken_step (laws v) (node_at x) v.elements t k v.apart (omega arith) _ _ I (rw q at done))
+            rw (p, q) (taken_step (laws v) (locator_at x) v.elements t k v.apart (omega arith) _ _ I (rw q at done))
 
   pub found_starts : (S : List ℕ) (u : ℕ) → t ≡ suc u → SameSolutions C inv x t (stage_of C inv x t (t - 1)) (found_of C inv x t (t - 1)) S S
   found_starts S u e I =
       let f : t - 1 ≡ u = omega arith in
-      rw (f, e) (sys_right (suc u) _ _ _ (found_first (laws v) (node_at x) v.elements u I))
+      rw (f, e) (sys_right (suc u) _ _ _ (found_first (laws v) (locator_at x) v.elements u I))
 
   pub found_ends : (S : List ℕ) (k : ℕ) → k ≡ 0 → SameSolutions C inv x t (found_of C inv x t k) (λ I. I) S S
-  found_ends S k e I = rw e (sys_right t _ _ _ (found_all (laws v) (node_at x) v.elements t I))
+  found_ends S k e I = rw e (sys_right t _ _ _ (found_all (laws v) (locator_at x) v.elements t I))

@@ -18,7 +18,7 @@ use Rattle.layout.specs.Sizes.{lost, LostBelow}
 use Rattle.layout.specs.Blocks.{block_at, size_of}
 use Rattle.layout.proofs.Entries.{word_lt}
 use Rattle.code.specs.Sums.{ZeroSums, FirstAt}
-use Rattle.code.specs.Solving.{node_at, entry, Untouched, SameSolutions, sums_of}
+use Rattle.code.specs.Solving.{locator_at, entry, Untouched, SameSolutions, sums_of}
 use Rattle.code.specs.Found.{FoundAdded}
 use Rattle.code.specs.Rebuilt.{lost_sum, Has, Found, Rebuilt, Unmatched}
 
@@ -30,9 +30,9 @@ pub equal_xor : (a b : ℕ) → a ≡ b → bit_xor a b ≡ 0
 equal_xor a b e = ap (λ u. bit_xor u b) e ∙ xor_self b
 
 module _ (C : Code) (inv : ℕ → ℕ) (ok : Proper C inv) (l : LossList) (below : LostBelow l C.positions)
-    (x : List ℕ) (at-nodes : (k : ℕ) → k < l.len → node_at x k ≡ power C.product 2 (lost l k)) where
-  -- the nodes of the lost positions are apart
-  pub lost_apart : Apart (grid_ops C inv) (Nz C.rows) (node_at x) l.len
+    (x : List ℕ) (at-nodes : (k : ℕ) → k < l.len → locator_at x k ≡ power C.product 2 (lost l k)) where
+  -- the locators of the lost positions are apart
+  pub lost_apart : Apart (grid_ops C inv) (Nz C.rows) (locator_at x) l.len
   lost_apart i n a b =
       subst (Nz C.rows) (sym (ap₂ bit_xor (at-nodes n b) (at-nodes i (omega arith))))
       (nodes_apart C ok.field ok.short (lost l) l.len l.ascends below i n a b)

@@ -1,4 +1,4 @@
--- What the steps of the solver do to the sums. C is the code of the shape, x the nodes, and t the number of lost packets.
+-- What the steps of the solver do to the sums. C is the code of the shape, x the locators, and t the number of lost packets.
 use Rattle.std.specs.Prelude.{ℕ, zero, suc, ◌+◌, ◌^◌, ◌<◌, ◌≤◌, ◌↔◌, List, ◌≢◌, bit_xor, slice_index}
 use Rattle.galois.specs.Field.{FieldLaws}
 use Rattle.algebra.specs.Code.{Code, SamePacket, scaled}
@@ -9,16 +9,16 @@ use Rattle.algebra.specs.Grids.{Grid, grid_xor, grid_ops, rows}
 use Rattle.layout.specs.Blocks.{block_at}
 use Rattle.code.specs.Packets.{plus}
 
--- node number s
-abbrev pub node_at : List ℕ → ℕ → ℕ
-node_at x s = slice_index x s
+-- locator number s
+abbrev pub locator_at : List ℕ → ℕ → ℕ
+locator_at x s = slice_index x s
 
--- what can be solved: a lawful arithmetic as wide as the rows, and t nodes, no more than there are sums, that are elements of it and apart
+-- what can be solved: a lawful arithmetic as wide as the rows, and t locators, no more than there are sums, that are elements of it and apart
 pub record Solvable (C : Code) (inv : ℕ → ℕ) (x : List ℕ) (t : ℕ) : Type 0 where
   pub laws : FieldLaws C.rows C.product inv
   pub few : t ≤ C.parity
-  pub elements : (k : ℕ) → node_at x k < 2 ^ C.rows
-  pub apart : Apart (grid_ops C inv) (Nz C.rows) (node_at x) t
+  pub elements : (k : ℕ) → locator_at x k < 2 ^ C.rows
+  pub apart : Apart (grid_ops C inv) (Nz C.rows) (locator_at x) t
 
 -- the product of y + x s over the s from j to j + k - 1
 unfoldable pub gap_of : (ℕ → ℕ → ℕ) → (ℕ → ℕ) → ℕ → ℕ → ℕ → ℕ
@@ -51,10 +51,10 @@ module _ (C : Code) where
 
     -- the sums of packets, after the forward steps, and with the packets above n found
     abbrev pub sums_of : (ℕ → Grid C) → ℕ → Grid C
-    sums_of = vander (grid_xor C) (grid_ops C inv) (node_at x) t
+    sums_of = vander (grid_xor C) (grid_ops C inv) (locator_at x) t
 
     abbrev pub stage_of : ℕ → (ℕ → Grid C) → ℕ → Grid C
-    stage_of j = form (grid_xor C) (grid_ops C inv) (node_at x) t j
+    stage_of j = form (grid_xor C) (grid_ops C inv) (locator_at x) t j
 
     abbrev pub found_of : ℕ → (ℕ → Grid C) → ℕ → Grid C
-    found_of n = found (grid_xor C) (grid_ops C inv) (node_at x) n
+    found_of n = found (grid_xor C) (grid_ops C inv) (locator_at x) n

@@ -6,7 +6,7 @@ use Rattle.layout.specs.Sizes.{packets_in}
 use Rattle.layout.specs.Blocks.{code_of, size_of, Run}
 use Rattle.code.specs.declared.code.Code.{Code}
 use Rattle.code.specs.declared.solver.Solver.{Solver}
-use Rattle.code.specs.Solving.{node_at, gap_of, Untouched, SameSolutions, sums_of, stage_of, found_of}
+use Rattle.code.specs.Solving.{locator_at, gap_of, Untouched, SameSolutions, sums_of, stage_of, found_of}
 use Rattle.code.specs.Found.{FoundAdded}
 use Rattle.code.specs.Held.{Summed}
 
@@ -41,30 +41,30 @@ module _ {F : Type 0} {f : Arithmetic.Ghosts F} (v : Solver F f) where
   -- packets have the sums before if and only if they have those after: in the last stage of the forward steps, ..
   abbrev pub Forward : List ℕ → List ℕ → Type 0
   Forward before after =
-      SameSolutions code_in f.inv v.nodes lost_count
-      (sums_of code_in f.inv v.nodes lost_count)
-      (stage_of code_in f.inv v.nodes lost_count (lost_count - 1))
+      SameSolutions code_in f.inv v.locators lost_count
+      (sums_of code_in f.inv v.locators lost_count)
+      (stage_of code_in f.inv v.locators lost_count (lost_count - 1))
       before after
 
   -- .. by the backward step that finds packet n, ..
   abbrev pub Backward : ℕ → List ℕ → List ℕ → Type 0
   Backward n before after =
-      SameSolutions code_in f.inv v.nodes lost_count
-      (found_of code_in f.inv v.nodes lost_count n)
-      (found_of code_in f.inv v.nodes lost_count (n - 1))
+      SameSolutions code_in f.inv v.locators lost_count
+      (found_of code_in f.inv v.locators lost_count n)
+      (found_of code_in f.inv v.locators lost_count (n - 1))
       before after
 
   -- .. and by all steps, which leave the packets themselves
   abbrev pub Solves : List ℕ → List ℕ → Type 0
-  Solves before after = SameSolutions code_in f.inv v.nodes lost_count (sums_of code_in f.inv v.nodes lost_count) (λ I. I) before after
+  Solves before after = SameSolutions code_in f.inv v.locators lost_count (sums_of code_in f.inv v.locators lost_count) (λ I. I) before after
 
   -- the product of x n + x s over the s from j to n - 1
   abbrev pub gap_in : ℕ → ℕ → ℕ
-  gap_in j n = gap_of f.prod (node_at v.nodes) j (n - j) (node_at v.nodes n)
+  gap_in j n = gap_of f.prod (locator_at v.locators) j (n - j) (locator_at v.locators n)
 
   -- the sums behind have gained the shares of all packets found
   abbrev pub AddsFound : List ℕ → List ℕ → Type 0
-  AddsFound before after = FoundAdded code_in v.nodes lost_count lost_count before after
+  AddsFound before after = FoundAdded code_in v.locators lost_count lost_count before after
 
   -- the sums have gained the packets of a run, at the positions from `start` on, that are not lost
   abbrev pub AddsHeld : ℕ → List ℕ → List ℕ → List ℕ → Type 0

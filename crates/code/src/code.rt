@@ -64,7 +64,7 @@ impl<F: Arithmetic> Code<F> {
         add_product(columns::<F>(a), &self.shape, source, target);
     }
 
-    // Adds a packet at node `x` to the sums from `first` on: sum μ gains x^μ times the packet.
+    // Adds a packet with locator `x` to the sums from `first` on: sum μ gains x^μ times the packet.
     pub(crate) fn add_packet(&self, sums: &mut [u32], first: usize, x: u32, packet: &[u32])
         requires sums { Run (code self.now) (code self.now).parity sums.old }
         requires packet { length packet.now ≡ size_of (code self.now) }

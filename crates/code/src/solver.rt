@@ -5,7 +5,7 @@ ghost use Rattle.galois.specs.Field.{power};
 ghost use Rattle.layout.specs.Sizes.{packets_in, lost, LostBelow};
 ghost use Rattle.layout.specs.Blocks.{Run, block_at, code_of};
 ghost use Rattle.layout.specs.Checks.{loss_refusal};
-ghost use Rattle.code.specs.Solving.{node_at, Solvable};
+ghost use Rattle.code.specs.Solving.{locator_at, Solvable};
 
 use crate::code::Code;
 use crate::packet::add_words;
@@ -15,7 +15,7 @@ use layout::losses::LossList;
 use layout::runs::clear;
 use refusal::Refusal;
 
-// The lost packets of a block, to be found from its sums, with the node α^p of each lost position p. The sums and a packet of
+// The lost packets of a block, to be found from its sums, with the locator α^p of each lost position p. The sums and a packet of
 // scratch are lent to each step, and so are the block and the work run of the calls: a struct that held runs would have to promise at
 // each step that they are the same still, and of the same length.
 #[derive(Drop)]
@@ -23,12 +23,12 @@ pub(crate) struct Solver<'a, F: Arithmetic> {
     code: &'a Code<F>,
     losses: &'a LossList,
     // As many as are lost, in the first places: a board has no heap.
-    nodes: [u32; 32],
+    locators: [u32; 32],
     ghost below: { LostBelow losses.now code.now.shape.positions },
     ghost at: { (s : ℕ) → s < losses.now.len
-        → node_at nodes s ≡ power F.Arithmetic.prod 2 (lost losses.now s) },
+        → locator_at locators s ≡ power F.Arithmetic.prod 2 (lost losses.now s) },
     ghost solvable: { Solvable (code_of code.now.shape F.Arithmetic.prod) F.Arithmetic.inv
-        nodes losses.now.len },
+        locators losses.now.len },
 }
 
 impl<'a, F: Arithmetic> Solver<'a, F> {
@@ -48,16 +48,16 @@ impl<'a, F: Arithmetic> Solver<'a, F> {
         ensures losses { IfOk result (λ v. v.losses.now ≡ losses.now) }
     {
         losses.check(&code.shape)?;
-        let mut nodes = [0; 32];
+        let mut locators = [0; 32];
         // By index: of what `iter_mut().zip(..)` wrote, nothing is known afterwards; and by `from_fn` every place would
         // have to ask whether there is a position for it. A position is below 1,024, so `as` keeps it.
         for (s, p) in losses.positions().iter().enumerate() {
-            nodes[s] = raise::<F>(2, *p as u32);
+            locators[s] = raise::<F>(2, *p as u32);
         }
         Ok(Solver {
             code,
             losses,
-            nodes,
+            locators,
         })
     }
 
@@ -92,7 +92,7 @@ impl<'a, F: Arithmetic> Solver<'a, F> {
         let t = self.count();
         for j in 1..t {
             for i in (j..t).rev() {
-                self.add_entry(sums, scratch, self.nodes[j - 1], i, i - 1);
+                self.add_entry(sums, scratch, self.locators[j - 1], i, i - 1);
             }
         }
     }
@@ -106,8 +106,8 @@ impl<'a, F: Arithmetic> Solver<'a, F> {
         ensures element { result < 2 ^ F.Arithmetic.bits }
     {
         let mut product = 1;
-        for node in &self.nodes[j..n] {
-            product = F::product(self.nodes[n] ^ *node, product);
+        for locator in &self.locators[j..n] {
+            product = F::product(self.locators[n] ^ *locator, product);
         }
         product
     }
@@ -158,7 +158,7 @@ impl<'a, F: Arithmetic> Solver<'a, F> {
         let t = self.count();
         for s in 0..t {
             scratch.copy_from_slice(&sums[self.code.range(s)]);
-            self.code.add_packet(sums, t, self.nodes[s], scratch);
+            self.code.add_packet(sums, t, self.locators[s], scratch);
         }
     }
 

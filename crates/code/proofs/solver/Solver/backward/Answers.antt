@@ -6,7 +6,7 @@ use Rattle.algebra.specs.Loops.{theta}
 use Rattle.algebra.specs.Grids.{grid_ops}
 use Rattle.layout.specs.Blocks.{code_of, packet_in}
 use Rattle.layout.proofs.Entries.{word_lt}
-use Rattle.code.specs.Solving.{node_at}
+use Rattle.code.specs.Solving.{locator_at}
 use Rattle.code.proofs.Backs.{Cleared, factor, gap_is, cleared_none, cleared_more, cleared_all}
 use Rattle.code.proofs.Ranges.{range_read, range_written, range_copied}
 use Rattle.code.proofs.solver.Solver.backward.Goals as goal
@@ -17,7 +17,7 @@ loop-j-preserved g c = λ e d.
     let f = g.F.Arithmetic in
     let s = c.args.self.now.code.now.shape in
     let C = code_of s f.prod in
-    let x = c.args.self.now.nodes in
+    let x = c.args.self.now.locators in
     let n = c.args.n in
     let j = c.loop-j.j in
     let t = c.loop-j.sums in
@@ -25,8 +25,8 @@ loop-j-preserved g c = λ e d.
     let v = c.args.self.now.solvable in
     let within : j < C.parity = let h = c.requires.n in let k = v.few in let l = c.loop-j-test.true in omega arith in
     let w = range_written c.range-in-loop-j.ensures t (c.loop-j.auto.sums ∙ c.copy_within.auto.self ∙ c.requires.sums) within c.add_times.new.target c.add_times.auto.target in
-    let gapped : c.gap.result % 2 ^ f.bits ≡ gap (grid_ops C f.inv) (node_at x) j (n - j) (node_at x n) =
-    mod-eq_of_lt c.gap.ensures.element ∙ c.gap.ensures.value ∙ gap_is C f.inv (node_at x) j (n - j) (node_at x n) in
+    let gapped : c.gap.result % 2 ^ f.bits ≡ gap (grid_ops C f.inv) (locator_at x) j (n - j) (locator_at x n) =
+    mod-eq_of_lt c.gap.ensures.element ∙ c.gap.ensures.value ∙ gap_is C f.inv (locator_at x) j (n - j) (locator_at x n) in
     let is : c.inverse-theta.result ≡ factor C f.inv x n j = c.inverse-theta.ensures ∙ ap f.inv gapped in
     let lt : c.inverse-theta.result < 2 ^ f.bits = rw c.inverse-theta.ensures (g.met.F.Arithmetic.field.inverse_lt _ (mod-lt c.gap.result (pow_pos f.bits))) in
     cleared_more v n z c.requires.some c.requires.n j e t _ c.loop-j-test.true
@@ -39,7 +39,7 @@ returns g c =
     let f = g.F.Arithmetic in
     let s = c.args.self.now.code.now.shape in
     let C = code_of s f.prod in
-    let x = c.args.self.now.nodes in
+    let x = c.args.self.now.locators in
     let n = c.args.n in
     let e = c.args.sums.now in
     let u = c.loop-j.sums in

@@ -9,7 +9,7 @@ returns-in-Some g c =
     let f = g.F.Arithmetic in
     let v = c.args.self.now in
     let s = v.code.now.shape in
-    let is = unmatched (code_of s f.prod) f.inv (proper s f.prod f.inv v.solvable.laws) v.losses.now v.below v.nodes v.at _ _ _ c.solve.ensures.solved c.solve.ensures.off c.add_found.ensures in
+    let is = unmatched (code_of s f.prod) f.inv (proper s f.prod f.inv v.solvable.laws) v.losses.now v.below v.locators v.at _ _ _ c.solve.ensures.solved c.solve.ensures.off c.add_found.ensures in
     (record { sum = c.in-Some.sum; word = c.in-Some.word; refusal = refl; fact = is _ _ (rw c.count.ensures at c.in-Some.ensures) }, c.clear.ensures)
 
 pub returns-in-None : goal.returns-in-None
@@ -17,5 +17,5 @@ returns-in-None g c =
     let f = g.F.Arithmetic in
     let v = c.args.self.now in
     let s = v.code.now.shape in
-    rebuilt (code_of s f.prod) f.inv (proper s f.prod f.inv v.solvable.laws) v.losses.now v.below v.nodes v.at _ _ _ c.solve.ensures.solved c.solve.ensures.off c.add_found.ensures
+    rebuilt (code_of s f.prod) f.inv (proper s f.prod f.inv v.solvable.laws) v.losses.now v.below v.locators v.at _ _ _ c.solve.ensures.solved c.solve.ensures.off c.add_found.ensures
     (rw c.count.ensures at c.in-None.ensures)

@@ -4,7 +4,7 @@ use Rattle.layout.specs.Blocks.{code_of}
 use Rattle.galois.specs.Field.{power}
 use Rattle.galois.proofs.Powers.{two_lt, power_lt}
 use Rattle.layout.specs.Sizes.{lost}
-use Rattle.code.specs.Solving.{node_at}
+use Rattle.code.specs.Solving.{locator_at}
 use Rattle.layout.proofs.Parts.{get_or_zeros}
 use Rattle.layout.proofs.Passes.{losses_pass}
 use Rattle.code.proofs.Stages.{laws_of}
@@ -20,16 +20,16 @@ loop-s-preserved g c =
     let f = g.F.Arithmetic in
     let laws = g.met.F.Arithmetic.field in
     let s = c.loop-s.s in
-    let room : s < length c.loop-s.nodes = let h = c.loop-s.invariant.0 in let k = c.loop-s-test.true in let e = c.positions-p-items.ensures.len in let w = c.args.losses.now.few in omega arith in
+    let room : s < length c.loop-s.locators = let h = c.loop-s.invariant.0 in let k = c.loop-s-test.true in let e = c.positions-p-items.ensures.len in let w = c.args.losses.now.few in omega arith in
     let lt : s < c.args.losses.now.len = let e = c.positions-p-items.ensures.len in let h = c.loop-s-test.true in omega arith in
     let here : c.raise.result ≡ power f.prod 2 (lost c.args.losses.now s) =
     c.raise.ensures ∙ ap₂ (power f.prod) (mod-eq_of_lt (two_lt laws)) (c.positions-p-items.ensures.at s lt) in (
-      length-set c.loop-s.nodes s _ ∙ c.loop-s.invariant.0,
+      length-set c.loop-s.locators s _ ∙ c.loop-s.invariant.0,
       λ k h. elim (ℕ_discrete k s) [
-        | yes q ↦ ap (λ u. get_or (set c.loop-s.nodes s c.raise.result) u 0) q ∙ get_or-set_same c.loop-s.nodes s _ 0 room ∙ here ∙ ap (λ u. power f.prod 2 (lost c.args.losses.now u)) (sym q)
-        | no q ↦ get_or-set_other c.loop-s.nodes s k _ 0 q ∙ c.loop-s.invariant.1 k (omega arith)
+        | yes q ↦ ap (λ u. get_or (set c.loop-s.locators s c.raise.result) u 0) q ∙ get_or-set_same c.loop-s.locators s _ 0 room ∙ here ∙ ap (λ u. power f.prod 2 (lost c.args.losses.now u)) (sym q)
+        | no q ↦ get_or-set_other c.loop-s.locators s k _ 0 q ∙ c.loop-s.invariant.1 k (omega arith)
       ],
-      λ k h. get_or-set_other c.loop-s.nodes s k _ 0 (λ q. omega arith) ∙ c.loop-s.invariant.2 k (omega arith),
+      λ k h. get_or-set_other c.loop-s.locators s k _ 0 (λ q. omega arith) ∙ c.loop-s.invariant.2 k (omega arith),
     )
 
 pub overflow_cast-p : goal.overflow_cast-p
@@ -49,7 +49,7 @@ invariant_of-result g c =
     let laws = laws_of s.rows f.bits f.prod f.inv c.args.code.now.width g.met.F.Arithmetic.field in
     let (below, few) = losses_pass s l (sym c.in_ok-check.ensures) in
     let all : c.loop-s.s ≡ l.len = let e = c.positions-p-items.ensures.len in omega arith in
-    let at : (k : ℕ) → k < l.len → node_at c.loop-s.nodes k ≡ power f.prod 2 (lost l k) = λ k h. c.loop-s.invariant.1 k (omega arith) in
+    let at : (k : ℕ) → k < l.len → locator_at c.loop-s.locators k ≡ power f.prod 2 (lost l k) = λ k h. c.loop-s.invariant.1 k (omega arith) in
     record {
       below = below;
       at = at;
@@ -60,6 +60,6 @@ invariant_of-result g c =
           | yes h ↦ rw (c.loop-s.invariant.1 k h) (power_lt laws 2 (lost l k) (two_lt laws))
           | no h ↦ rw (c.loop-s.invariant.2 k (omega arith)) (pow_pos s.rows)
         ];
-        apart = lost_apart C f.inv (proper s f.prod f.inv laws) l below c.loop-s.nodes at;
+        apart = lost_apart C f.inv (proper s f.prod f.inv laws) l below c.loop-s.locators at;
       };
     }

@@ -6,6 +6,6 @@ use Rattle.code.proofs.solver.Solver.solve.Given as goal
 abbrev pub invariant-loop-n : goal.invariant-loop-n
 invariant-loop-n g l =
     let f = g.F.Arithmetic in
-    SameSolutions (code_in l.self) f.inv l.self.nodes l.self.losses.now.len
-    (found_of (code_in l.self) f.inv l.self.nodes l.self.losses.now.len (l.self.losses.now.len - 1)) (found_of (code_in l.self) f.inv l.self.nodes l.self.losses.now.len (l.n - 1)) l.initial.sums l.sums
+    SameSolutions (code_in l.self) f.inv l.self.locators l.self.losses.now.len
+    (found_of (code_in l.self) f.inv l.self.locators l.self.losses.now.len (l.self.losses.now.len - 1)) (found_of (code_in l.self) f.inv l.self.locators l.self.losses.now.len (l.n - 1)) l.initial.sums l.sums
     × Untouched (code_in l.self) l.self.losses.now.len l.initial.sums l.sums
