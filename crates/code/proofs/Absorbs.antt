@@ -6,7 +6,7 @@ use Rattle.galois.specs.Field.{power}
 use Rattle.algebra.specs.Code.{Packet, Block, SamePacket, ZeroPacket, scaled, xors, Code}
 use Rattle.algebra.proofs.Words.{xors_none, scaled_same, scaled_zero}
 use Rattle.layout.specs.Blocks.{packet_in, block_at, ZeroRun}
-use Rattle.code.specs.Sums.{Absorbed, Shared, SumsTo}
+use Rattle.code.specs.Sums.{Absorbed, ShareAdded, SumsTo}
 use Rattle.code.specs.Packets.{PacketWritten}
 
 module _ (C : Code) (first x : ℕ) (p : Packet) (e : List ℕ) where
@@ -37,7 +37,7 @@ module _ (C : Code) (b : Block) where
   sums_none run e μ h i c p q = e _
 
   -- packet n is absorbed
-  pub sums_held : (n : ℕ) (p : Packet) (t t' : List ℕ) → SamePacket C p (b n) → Shared C n p t t' → SumsTo C b n t → SumsTo C b (n + 1) t'
+  pub sums_held : (n : ℕ) (p : Packet) (t t' : List ℕ) → SamePacket C p (b n) → ShareAdded C n p t t' → SumsTo C b n t → SumsTo C b (n + 1) t'
   unfolding xors
   sums_held n p t t' is d e μ h i c a k =
       let term : ℕ → ℕ = λ q. scaled C (power C.product 2 (μ * q)) (b q) i c in

@@ -4,7 +4,7 @@ use Rattle.algebra.specs.Code.{Packet, Block, SamePacket, among, Code}
 use Rattle.layout.specs.declared.losses.LossList.{LossList}
 use Rattle.layout.specs.Sizes.{lost}
 use Rattle.layout.specs.Blocks.{block_at}
-use Rattle.code.specs.Sums.{Shared, SumsTo}
+use Rattle.code.specs.Sums.{ShareAdded, SumsTo}
 use Rattle.code.proofs.Absorbs.{sums_held, sums_lost}
 use Rattle.code.specs.Held.{Reads, Summed}
 use Rattle.code.proofs.Repairs.{left_of, left_gone, left_same}
@@ -21,7 +21,7 @@ module _ (C : Code) (l : LossList) (start n : ℕ) (run e t : List ℕ) (d : Sum
       subst (λ k. SumsTo C b k t) next (sums_lost C b (start + n) t (r.gone n (omega arith) f) (before b r z))
 
   -- packet n is held, and absorbed
-  pub summed_held : (p : Packet) (t' : List ℕ) → among (lost l) l.len (start + n) ≡ false → SamePacket C p (block_at C run n) → Shared C (start + n) p t t'
+  pub summed_held : (p : Packet) (t' : List ℕ) → among (lost l) l.len (start + n) ≡ false → SamePacket C p (block_at C run n) → ShareAdded C (start + n) p t t'
       → Summed C l start (n + 1) run e t'
   summed_held p t' f is gained b r z =
       let next : start + n + 1 ≡ start + (n + 1) = omega arith in

@@ -12,19 +12,19 @@ pub record Absorbed (C : Code) (first end x : ℕ) (p : Packet) (before after : 
   pub below : (μ : ℕ) → μ < first → SamePacket C (block_at C after μ) (block_at C before μ)
   pub above : (μ : ℕ) → end ≤ μ → μ < C.parity → SamePacket C (block_at C after μ) (block_at C before μ)
 
--- every sum from `first` on has
+-- every sum from `first` on has gained x^μ times the packet that a run holds
 abbrev pub AbsorbedFrom : Code → ℕ → ℕ → List ℕ → List ℕ → List ℕ → Type 0
 AbsorbedFrom C first x packet before after = Absorbed C first C.parity x (packet_in C.words packet) before after
 
 -- every sum has gained its share of the packet at a position: sum μ gains α^(μ·position) times it
-abbrev pub Shared : Code → ℕ → Packet → List ℕ → List ℕ → Type 0
-Shared C position p before after =
+abbrev pub ShareAdded : Code → ℕ → Packet → List ℕ → List ℕ → Type 0
+ShareAdded C position p before after =
     (μ : ℕ) → μ < C.parity
     → SamePacket C (block_at C after μ) (plus (block_at C before μ) (scaled C (power C.product 2 (μ * position)) p))
 
--- of a packet that a run holds
+-- every sum has gained its share of the packet that a run holds
 abbrev pub Gained : Code → ℕ → List ℕ → List ℕ → List ℕ → Type 0
-Gained C position packet before after = Shared C position (packet_in C.words packet) before after
+Gained C position packet before after = ShareAdded C position (packet_in C.words packet) before after
 
 -- the run holds the sums of the first n packets of a block
 abbrev pub SumsTo : Code → Block → ℕ → List ℕ → Type 0

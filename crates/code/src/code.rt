@@ -1,7 +1,7 @@
 //! The code of a shape over an arithmetic: it fills, checks and repairs blocks, and works on the sums of a block's packets.
-ghost use Rattle.std.specs.Prelude.{◌≡◌, ◌%◌, ◌^◌, ◌<◌, ◌≤◌, length, IfErr, IfOk, None, ℕ, Some, ◌≢◌};
+ghost use Rattle.std.specs.Prelude.{◌≡◌, ◌%◌, ◌^◌, ◌<◌, ◌≤◌, length, IfErr, IfOk, None, Some};
 ghost use Rattle.refusal.specs.Numbers.{refused_with};
-ghost use Rattle.layout.specs.Blocks.{Run, ZeroRun, block_at, size_of};
+ghost use Rattle.layout.specs.Blocks.{Run, ZeroRun, size_of};
 ghost use Rattle.layout.specs.Checks.{CheckedFirst, Cleared, width_refusal};
 
 use crate::packet::{add_product, columns};
@@ -36,7 +36,7 @@ impl<F: Arithmetic> Code<F> {
     /// The code of a shape; refused with `OtherWidth` if its rows are not as many as the arithmetic is wide.
     pub fn new(shape: &Shape) -> Result<Code<F>, Refusal>
         ensures answer { refused_with result ≡ width_refusal F.Arithmetic.bits shape.now }
-        ensures of { IfOk result (λ made. made.shape ≡ shape.now) }
+        ensures shape { IfOk result (λ made. made.shape ≡ shape.now) }
     {
         shape.check_width::<F>()?;
         Ok(Code {

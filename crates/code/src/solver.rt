@@ -1,5 +1,5 @@
 //! The packets at lost positions, from the sums of the others.
-ghost use Rattle.std.specs.Prelude.{◌≡◌, ℕ, ◌+◌, ◌%◌, ◌^◌, ◌<◌, ◌≤◌, length, IfOk};
+ghost use Rattle.std.specs.Prelude.{◌≡◌, ℕ, ◌+◌, ◌%◌, ◌^◌, ◌<◌, ◌≤◌, IfOk};
 ghost use Rattle.refusal.specs.Numbers.{refused_with};
 ghost use Rattle.galois.specs.Field.{power};
 ghost use Rattle.layout.specs.Sizes.{packets_in, lost, LostBelow};

@@ -1,5 +1,5 @@
 //! The head-end: the words of an image with their parity, and the frames that carry both.
-ghost use Rattle.std.specs.Prelude.{◌≡◌, ◌+◌, ◌*◌, ◌≤◌, vec_len, slice_index, IfOk};
+ghost use Rattle.std.specs.Prelude.{◌≡◌, ◌+◌, ◌*◌, ◌≤◌, slice_index, IfOk};
 ghost use Rattle.std.specs.Int.{w32, from_be_bytes};
 ghost use Rattle.layout.specs.Sizes.{packet_of};
 ghost use Rattle.frame.specs.Frames.{parse};

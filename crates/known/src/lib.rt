@@ -2,7 +2,7 @@
 //! else would not give them. Nothing but proofs and tests uses this crate.
 //!
 //! ```
-//! assert_eq!(known::answers::repaired(), Ok(known::known_block()));
+//! assert_eq!(rt; known::answers::repaired(), Ok(known::known_block()));
 //! ```
 #![tactic(auto)]
 

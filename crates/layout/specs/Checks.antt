@@ -8,11 +8,11 @@ use Rattle.layout.specs.declared.losses.LossList.{LossList}
 use Rattle.layout.specs.Sizes.{parity_of, packet_of, lost}
 use Rattle.layout.specs.Blocks.{ZeroRun}
 
--- refusal 1, unless the rows of the shape are the width of the arithmetic
+-- OtherWidth, unless the rows of the shape are the width of the arithmetic
 abbrev pub width_refusal : ℕ → Shape → Option (ℕ × List ℕ)
 width_refusal bits s = cond (s.rows == bits) None (Some (said OtherWidth))
 
--- refusal 5 with the place of a run, unless the run has just so many packets
+-- WrongRun with the place of a run, unless the run has just so many packets
 abbrev pub run_refusal : Shape → ℕ → List ℕ → ℕ → Option (ℕ × List ℕ)
 run_refusal s packets run place = cond (length run == packets * packet_of s) None (Some (said (WrongRun place)))
 
@@ -21,7 +21,7 @@ unfoldable pub all_below : (ℕ → ℕ) → ℕ → ℕ → Bool
 all_below p zero end = true
 all_below p (suc t) end = nat_lt (p t) end && all_below p t end
 
--- refusal 6 unless every lost position is in the block, then refusal 7 if too many are lost
+-- BadLosses unless every lost position is in the block, then TooFew if too many are lost
 abbrev pub loss_refusal : Shape → LossList → Option (ℕ × List ℕ)
 loss_refusal s l = cond (all_below (lost l) l.len s.positions) (cond (nat_le l.len (parity_of s)) None (Some (said TooFew))) (Some (said BadLosses))
 

@@ -16,29 +16,29 @@ use Rattle.receiver.specs.Meaning.{Meaning}
 
 -- Checks that several calls make
 
--- refusal 10 while no shape is set, then what is said of the shape
+-- NoShape while no shape is set, then what is said of the shape
 abbrev pub of_shape : Option Shape → (Shape → Option (ℕ × List ℕ)) → Option (ℕ × List ℕ)
 of_shape None check = Some (said NoShape)
 of_shape (Some s) check = check s
 
--- the shape that is set, or refusal 10 while none is
+-- the shape that is set, or NoShape while none is
 abbrev pub ShapeSaid : Option Shape → Result Shape Refusal → Type 0
 ShapeSaid o (Ok s) = o ≡ Some s
 ShapeSaid o (Err e) = (o ≡ None) × (e ≡ NoShape)
 
--- refusal 11, unless the shape has the block
+-- OutsideShape, unless the shape has the block
 abbrev pub block_refusal : Shape → ℕ → Option (ℕ × List ℕ)
 block_refusal s i = cond (nat_lt i s.blocks) None (Some (said OutsideShape))
 
--- refusal 11, unless the shape has the position
+-- OutsideShape, unless the shape has the position
 abbrev pub position_refusal : Shape → ℕ → Option (ℕ × List ℕ)
 position_refusal s j = cond (nat_lt j s.positions) None (Some (said OutsideShape))
 
--- refusal 11, unless the shape has the block and the position
+-- OutsideShape, unless the shape has the block and the position
 abbrev pub place_refusal : Shape → ℕ → ℕ → Option (ℕ × List ℕ)
 place_refusal s i j = or_else (block_refusal s i) (position_refusal s j)
 
--- refusal 5 at place 0, unless there are just the words of a packet
+-- WrongRun at place 0, unless there are just the words of a packet
 abbrev pub length_refusal : Shape → List ℕ → Option (ℕ × List ℕ)
 length_refusal s ws = run_refusal s 1 ws 0
 
@@ -61,7 +61,7 @@ abbrev pub Compared : Grid → ℕ → ℕ → List ℕ → Result Bool Refusal 
 Compared g i j ws (Ok same) = same ≡ slot_holds (g.slots i j) ws
 Compared g i j ws (Err e) = Some (said e) ≡ get_refusal g i j ws
 
--- refusal 12, if the slot holds another packet
+-- OtherPacket, if the slot holds another packet
 abbrev pub other_refusal : Option (List ℕ) → List ℕ → Option (ℕ × List ℕ)
 other_refusal None ws = None
 other_refusal (Some held) ws = cond (same_words held ws) None (Some (said OtherPacket))
@@ -128,7 +128,7 @@ Took m (refused e) (Err f) after = after ≡ m
 
 -- FETCH
 
--- refusal 23, if the slot is empty
+-- SlotEmpty, if the slot is empty
 abbrev pub empty_refusal : Option (List ℕ) → Option (ℕ × List ℕ)
 empty_refusal None = Some (said SlotEmpty)
 empty_refusal (Some ws) = None

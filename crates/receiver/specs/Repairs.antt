@@ -17,7 +17,7 @@ use Rattle.receiver.specs.Meaning.{Meaning}
 use Rattle.receiver.specs.Calls.{of_shape, block_refusal, held_in}
 use Rattle.receiver.specs.Blocks.{block_of, missing_in, Agrees}
 
--- refusal 7, unless k positions of the block are held
+-- TooFew, unless k positions of the block are held
 abbrev pub few_refusal : Shape → Grid → ℕ → Option (ℕ × List ℕ)
 few_refusal s g i = cond (nat_le s.sources (count (held_in g i) s.positions)) None (Some (said TooFew))
 

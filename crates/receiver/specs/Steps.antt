@@ -22,7 +22,7 @@ pub record Lacks (s : Shape) (g : Grid) (i : ℕ) (l : LossList) : Type 0 where
   pub inside : i < s.blocks
   pub missing : Missing s g i l
 
--- the positions that are missing, or refusal 7 if they are too many
+-- the positions that are missing, or TooFew if they are too many
 abbrev pub ListsMissing : Shape → Grid → ℕ → Result LossList Refusal → Type 0
 ListsMissing s g i (Ok l) = Missing s g i l × (few_refusal s g i ≡ None)
 ListsMissing s g i (Err e) = few_refusal s g i ≡ Some (said e)
@@ -47,7 +47,7 @@ pub record Put (s : Shape) (l : LossList) (i n : ℕ) (run : List ℕ) (g h : Gr
   pub at : (k : ℕ) → k < n → h.slots i (lost l k) ≡ Some (between (k * packet_of s) (k * packet_of s + packet_of s) run)
   pub off : (a b : ℕ) → (a ≡ i → among (lost l) n b ≢ true) → h.slots a b ≡ g.slots a b
 
--- all of them; nothing is refused
+-- all packets of a run fill the slots at the lost positions; nothing is refused
 abbrev pub AllPut : Shape → LossList → ℕ → List ℕ → Grid → Grid → Result (Unit {0}) Refusal → Type 0
 AllPut s l i run g h (Ok u) = Put s l i l.len run g h
 AllPut s l i run g h (Err e) = ⊥

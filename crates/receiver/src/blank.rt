@@ -24,7 +24,7 @@ impl<F: Arithmetic, S: SlotStore> Receiver<F, S> {
         }
     }
 
-    /// The shape that is set, of which a board knows the sizes of its runs; refused with 10 while none is.
+    /// The shape that is set, of which a board knows the sizes of its runs; refused with `NoShape` while none is.
     pub fn shape(&self) -> Result<Shape, Refusal>
         ensures { ShapeSaid self.now.shape result }
     {

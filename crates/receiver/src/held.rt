@@ -10,7 +10,8 @@ use refusal::Refusal;
 use store::SlotStore;
 
 impl<F: Arithmetic, S: SlotStore> Receiver<F, S> {
-    /// Copies the packet of a block and a position into `run`.
+    /// Copies the packet of a block and a position into `run`; refused with `NoShape`, `OutsideShape`, `WrongRun` at place 0 or
+    /// `SlotEmpty`, whichever comes first, and then the run stays.
     pub fn fetch(&self, block: usize, position: usize, run: &mut [u32]) -> Result<(), Refusal>
         ensures answer { refused_with result
             ≡ fetch_refusal (means self.now) block position run.old }

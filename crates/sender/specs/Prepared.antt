@@ -25,6 +25,6 @@ abbrev pub Prepared : Shape → (ℕ → ℕ → ℕ) → List ℕ → List ℕ 
 Prepared s prod image parity n =
     (b : ℕ) → b < n → Encoded (code_of s prod) (part (s.sources * packet_of s) image b) (part (parity_of s * packet_of s) parity b)
 
--- all blocks have
+-- the parity run is that of all blocks, and every block has the parity that makes it a codeword
 abbrev pub AllPrepared : Shape → (ℕ → ℕ → ℕ) → List ℕ → List ℕ → Type 0
 AllPrepared s prod image parity = Packets s (s.blocks * parity_of s) parity × Prepared s prod image parity s.blocks

@@ -5,7 +5,7 @@
 //!
 //! - [`memory::MemoryStore`] for memory, where any word may be written at any time;
 //! - [`nor::NorStore`] for NOR flash, where words are erased all together, and a bit that was then
-//!   programmed to 0 stays 0. Its first word is a lock, shut but while a call writes;
+//!   programmed to 0 stays 0. Its first word is a lock, shut except while a call writes;
 //! - [`transposed::Transposed`] over either, whose rows are the columns of the store below.
 //!
 //! `words_for` of the first two says how long the run has to be.

@@ -16,6 +16,6 @@ returns-clause-mended g c =
     let size = c.find_missing.auto.work ∙ c.requires.work in
     let h = c.in_ok-put_found.ensures in (
       c.positions.ensures.len,
-      completes s prod l G i A W H size h.words h.put (rw c.in_ok-codec.ensures.of at c.in_ok-find_missing.ensures),
+      completes s prod l G i A W H size h.words h.put (rw c.in_ok-codec.ensures.shape at c.in_ok-find_missing.ensures),
       still_fitted s prod l G i A W H size h.words h.put,
     )

@@ -34,7 +34,7 @@ loop-block-preserved g c =
       chunks = turn.source.next;
       prepared = rw here (prepared_more s g.F.Arithmetic.prod c.args.image.now c.in-Some.block _ _ c.loop-block.parity c.encode.new.parity of (omega arith) end
           (c.encode.auto.parity ∙ part_length c.loop-block.parity c.in-Some.block c.words-part.result end)
-          (rw (turn.source.is, here, c.in_ok-code.ensures.of) at c.in_ok-encode.ensures.filled) (rw here at v.prepared));
+          (rw (turn.source.is, here, c.in_ok-code.ensures.shape) at c.in_ok-encode.ensures.filled) (rw here at v.prepared));
     }
 
 pub returns-in_err-encode : goal.returns-in_err-encode
@@ -45,7 +45,7 @@ returns-in_err-encode g c =
     let (image, parity) = runs_pass s _ _ c.in_ok-check_runs.ensures in
     let of = c.words-part.ensures.value ∙ ap (λ r. r * packet_of s) c.parity.ensures in
     let turn = block_turn s c.args.image.now c.loop-block.parity (length c.loop-block.yielded) _ _ _ _ _ _ image (c.loop-block.auto.parity ∙ parity) of v.chunks step in
-    passed _ _ (rw (sym (number ∙ v.count)) at (encodes s _ _ _ _ _ _ _ of turn)) (rw c.in_ok-code.ensures.of at c.in_err-encode.ensures.answer)
+    passed _ _ (rw (sym (number ∙ v.count)) at (encodes s _ _ _ _ _ _ _ of turn)) (rw c.in_ok-code.ensures.shape at c.in_err-encode.ensures.answer)
 
 pub returns-clause-parity : goal.returns-clause-parity
 returns-clause-parity g c =
