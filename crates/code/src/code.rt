@@ -74,7 +74,6 @@ impl<F: Arithmetic> Code<F> {
     {
         // There are no more than 32 sums, so `as` keeps the number.
         let mut a = raise::<F>(x, first as u32);
-        // By number: of a run that `chunks_mut` lent, only the length is known afterwards.
         for sum in first..self.shape.parity() {
             self.add_times(a, packet, &mut sums[self.range(sum)]);
             a = F::product(x, a);

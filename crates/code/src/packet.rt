@@ -19,7 +19,6 @@ pub(crate) fn add_words(target: &mut [u32], source: &[u32])
     requires { length target.old ≡ length source.now }
     ensures { AddedWords source.now target.old target.new }
 {
-    // By index: of words that `iter_mut().zip(..)` wrote to, only the length is known afterwards.
     for (i, word) in source.iter().enumerate() {
         target[i] ^= *word;
     }
@@ -46,7 +45,6 @@ pub(crate) fn add_product(columns: [u32; 10], shape: &Shape, source: &[u32], tar
     ensures { AddedRows shape.now columns source.now target.old target.new }
 {
     let w = shape.words();
-    // By index: of a run that `chunks_mut` lent, only the length is known afterwards.
     for i in 0..shape.rows() {
         add_selected(&columns, i, shape, source, &mut target[i * w..i * w + w]);
     }

@@ -49,8 +49,7 @@ impl<'a, F: Arithmetic> Solver<'a, F> {
     {
         losses.check(&code.shape)?;
         let mut locators = [0; 32];
-        // By index: of what `iter_mut().zip(..)` wrote, nothing is known afterwards; and by `from_fn` every place would
-        // have to ask whether there is a position for it. A position is below 1,024, so `as` keeps it.
+        // A position is below 1,024, so `as` keeps it.
         for (s, p) in losses.positions().iter().enumerate() {
             locators[s] = raise::<F>(2, *p as u32);
         }
@@ -141,7 +140,6 @@ impl<'a, F: Arithmetic> Solver<'a, F> {
         ensures off { Behind self.now sums.old sums.new }
     {
         self.forward(sums, scratch);
-        // By number: each step finds packet n and takes it out of the sums before it.
         for n in (1..self.count()).rev() {
             self.backward(n, sums, scratch);
         }
@@ -153,8 +151,7 @@ impl<'a, F: Arithmetic> Solver<'a, F> {
         requires scratch { Scratch self.now scratch.old }
         ensures { AddsFound self.now sums.old sums.new }
     {
-        // By number, each by way of scratch: `add_packet` takes the whole run, in which the packets found lie too. Over the sums behind
-        // them it would have to be told which sum is the first.
+        // By way of scratch: `add_packet` takes the whole run, in which the packets found lie too.
         let t = self.count();
         for s in 0..t {
             scratch.copy_from_slice(&sums[self.code.range(s)]);

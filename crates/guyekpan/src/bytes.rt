@@ -31,7 +31,6 @@ pub(crate) fn write(words: &[u32], bytes: &mut [u8])
     requires { length bytes.old ≡ 4 * length words.now }
     ensures { words_of bytes.new ≡ words.now }
 {
-    // By number: of bytes that were written by way of `chunks_mut`, nothing is known afterwards.
     for (i, word) in words.iter().enumerate() {
         bytes[i * 4..i * 4 + 4].copy_from_slice(&word.to_be_bytes());
     }

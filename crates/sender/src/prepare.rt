@@ -43,7 +43,6 @@ pub fn prepare<F: Arithmetic>(
     let part = words(shape, shape.parity());
     let sources = image.chunks(words(shape, shape.sources()));
     for (block, source) in sources.enumerate() {
-        // A part by its number: of what a loop over `chunks_mut` leaves, a proof knows the length alone.
         code.encode(source, &mut parity[block * part..block * part + part])?;
     }
     Ok(())
