@@ -1,5 +1,5 @@
 -- The backward steps of the solver: each leaves the same solutions.
-use Rattle.std.proofs.Common.{◌≡◌, ℕ, zero, suc, ◌+◌, ◌-◌, ◌^◌, ◌<◌, ◌↔◌, List, sym, refl, ap, ◌∙◌, ap₂, add-one, arith}
+use Rattle.std.proofs.Common.{◌≡◌, ℕ, zero, suc, ◌+◌, ◌-◌, ◌^◌, ◌<◌, ◌↔◌, List, sym, refl, ap, ◌∙◌, ap₂, add-one, add-zero, arith}
 use mathlib.Core.Logic.Iff
 use native.Mathlib.Decide.{ℕ_discrete}
 use lib.Bits.{bit_xor, xor_lt, xor_assoc, xor_self, xor_zero_l}
@@ -26,6 +26,22 @@ pub gap_lt : {m : ℕ} {prod : ℕ → ℕ → ℕ} {inv : ℕ → ℕ} → Fiel
 unfolding gap_of
 gap_lt laws x ox j zero y h = one_lt laws
 gap_lt {m} laws x ox j (suc k) y h = laws.closed _ _ (xor_lt m y (x (j + k)) h (ox (j + k))) (gap_lt laws x ox j k y h)
+
+-- its first factor apart
+pub gap_front : {m : ℕ} {prod : ℕ → ℕ → ℕ} {inv : ℕ → ℕ} → FieldLaws m prod inv → (x : ℕ → ℕ) → ((s : ℕ) → x s < 2 ^ m) → (j k y : ℕ) → y < 2 ^ m
+    → gap_of prod x j (suc k) y ≡ prod (bit_xor y (x j)) (gap_of prod x (j + 1) k y)
+unfolding gap_of
+gap_front {m} {prod} laws x ox j zero y h = ap (λ i. prod (bit_xor y (x i)) 1) (add-zero j)
+gap_front {m} {prod} laws x ox j (suc k) y h =
+    let d : ℕ → ℕ = λ i. bit_xor y (x i) in
+    let d-lt : (i : ℕ) → d i < 2 ^ m = λ i. xor_lt m y (x i) h (ox i) in
+    let last = d (j + 1 + k) in
+    let rest = gap_of prod x (j + 1) k y in
+    let rest-lt : rest < 2 ^ m = gap_lt laws x ox (j + 1) k y h in
+    let place : j + suc k ≡ j + 1 + k = omega arith in
+    ap₂ prod (ap d place) (gap_front laws x ox j k y h)
+    ∙ sym (laws.assoc last (d j) rest (d-lt (j + 1 + k)) (d-lt j) rest-lt) ∙ ap (λ u. prod u rest) (laws.comm last (d j) (d-lt (j + 1 + k)) (d-lt j))
+    ∙ laws.assoc (d j) last rest (d-lt j) (d-lt (j + 1 + k)) rest-lt
 
 -- a system whose left side is written otherwise
 pub sys_left : {V : Type 0} (t : ℕ) (S S' T : ℕ → V) → Sys t S S' → Sys t S T ↔ Sys t S' T

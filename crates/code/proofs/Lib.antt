@@ -1,4 +1,6 @@
 pub mod Rows
+pub mod Selecting
+pub mod Matrices
 pub mod Ranges
 pub mod Absorbs
 pub mod Stages

@@ -1,3 +1,5 @@
+pub mod Subsets
+pub mod Matrices
 pub mod Packets
 pub mod Codewords
 pub mod Sums

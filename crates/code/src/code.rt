@@ -1,30 +1,36 @@
 //! The code of a shape over an arithmetic: it fills, checks and repairs blocks, and works on the sums of a block's packets.
-ghost use Rattle.std.specs.Prelude.{◌≡◌, ◌%◌, ◌^◌, ◌<◌, ◌≤◌, length, IfErr, IfOk, None, Some};
+ghost use Rattle.std.specs.Prelude.{◌≡◌, ℕ, ◌*◌, ◌%◌, ◌^◌, ◌<◌, ◌≤◌, length, IfErr, IfOk, None, Some};
 ghost use Rattle.refusal.specs.Numbers.{refused_with};
-ghost use Rattle.layout.specs.Blocks.{Run, ZeroRun, size_of};
+ghost use Rattle.algebra.specs.Code.{Packet};
+ghost use Rattle.layout.specs.Blocks.{Run, ZeroRun, packet_in, size_of};
 ghost use Rattle.layout.specs.Checks.{CheckedFirst, Cleared, width_refusal};
 
-use crate::packet::{add_product, columns};
+use crate::matrix::Matrices;
+use crate::packet::{add_rows, add_rows_and_step};
 use crate::solver::Solver;
+use crate::subsets::{fill, fill_rows};
 use field::Arithmetic;
 use field::power::raise;
 use layout::losses::LossList;
 use layout::runs::clear;
 use layout::shape::{LONGEST, Shape};
 use refusal::Refusal;
-use std::marker::PhantomData;
 use std::ops::Range;
+
+// The words of a table of the sums of a packet's rows: 36 rows of up to 16 words.
+pub(crate) const TABLE: usize = 576;
 
 /// A shape whose rows are as many as the arithmetic is wide. Made once, it serves any number of blocks.
 #[derive(Drop)]
 pub struct Code<F: Arithmetic> {
     pub(crate) shape: Shape,
-    field: PhantomData<F>,
+    matrices: Matrices<F>,
     ghost width: { shape.rows ≡ F.Arithmetic.bits },
 }
 
 impl<F: Arithmetic> Code<F> {
     ghost use Rattle.code.specs.Packets.{AddedTimes, PacketRange, PacketWritten};
+    ghost use Rattle.code.specs.Subsets.{TableOf};
     ghost use Rattle.code.specs.Sums.{AbsorbedFrom, FirstNonzero, Gained};
     ghost use Rattle.code.specs.Lost.{Contradicts};
     ghost use Rattle.code.specs.Held.{Filled};
@@ -41,7 +47,7 @@ impl<F: Arithmetic> Code<F> {
         shape.check_width::<F>()?;
         Ok(Code {
             shape: *shape,
-            field: PhantomData,
+            matrices: Matrices::new(),
         })
     }
 
@@ -54,14 +60,67 @@ impl<F: Arithmetic> Code<F> {
         i * p..i * p + p
     }
 
-    // Adds `a` times the packet `source` to the packet `target`.
-    pub(crate) fn add_times(&self, a: u32, source: &[u32], target: &mut [u32])
-        requires target { length target.old ≡ size_of (code self.now) }
-        requires source { length source.now ≡ size_of (code self.now) }
-        ensures { AddedTimes (code self.now) (a % 2 ^ F.Arithmetic.bits) source.now
-            target.old target.new }
+    // Fills a table with the sums of the rows of a packet.
+    pub(crate) fn fill_table(&self, packet: &[u32], table: &mut [u32; TABLE])
+        requires packet { length packet.now ≡ size_of (code self.now) }
+        ensures { TableOf (code self.now) (packet_in (code self.now).words packet.now) table.new }
     {
-        add_product(columns::<F>(a), &self.shape, source, target);
+        fill_rows(self.shape.words(), F::width() as usize, packet, table);
+    }
+
+    // Adds `a` times the packet of a table to the packet `target`.
+    pub(crate) fn add_times(&self, a: u32, table: &[u32; TABLE], target: &mut [u32])
+        requires element { a < 2 ^ F.Arithmetic.bits }
+        requires target { length target.old ≡ size_of (code self.now) }
+        ensures { (p : Packet) → TableOf (code self.now) p table.now
+            → AddedTimes (code self.now) a p target.old target.new }
+    {
+        let matrix = self.matrices.of(a);
+        add_rows(
+            self.shape.words(),
+            F::width() as usize,
+            table,
+            &matrix,
+            target,
+        );
+    }
+
+    // Adds a packet to the sums by way of a table of 36 rows of w words, where w is the width of the packet's rows.
+    #[inline(always)]
+    fn add_powers(
+        &self,
+        w: usize,
+        table: &mut [u32],
+        sums: &mut [u32],
+        first: usize,
+        x: u32,
+        packet: &[u32],
+    )
+        requires width { w ≡ (code self.now).words }
+        requires table { length table.old ≡ 36 * w }
+        requires sums { Run (code self.now) (code self.now).parity sums.old }
+        requires packet { length packet.now ≡ size_of (code self.now) }
+        requires first { first ≤ (code self.now).parity }
+        requires element { x < 2 ^ F.Arithmetic.bits }
+        ensures { AbsorbedFrom (code self.now) first x packet.now sums.old sums.new }
+    {
+        let m = F::width() as usize;
+        let p = m * w;
+        fill(w, m, packet, table);
+        let mut rows = [0; 36];
+        fill(1, m, &self.matrices.of(x)[..m], &mut rows);
+        // There are no more than 32 sums, so `as` keeps the number.
+        let mut matrix = self.matrices.of(raise::<F>(x, first as u32));
+        for sum in first..self.shape.parity() {
+            add_rows_and_step(
+                w,
+                m,
+                table,
+                &rows,
+                &mut matrix,
+                &mut sums[sum * p..sum * p + p],
+            );
+        }
     }
 
     // Adds a packet with locator `x` to the sums from `first` on: sum μ gains x^μ times the packet.
@@ -72,11 +131,13 @@ impl<F: Arithmetic> Code<F> {
         requires element { x < 2 ^ F.Arithmetic.bits }
         ensures { AbsorbedFrom (code self.now) first x packet.now sums.old sums.new }
     {
-        // There are no more than 32 sums, so `as` keeps the number.
-        let mut a = raise::<F>(x, first as u32);
-        for sum in first..self.shape.parity() {
-            self.add_times(a, packet, &mut sums[self.range(sum)]);
-            a = F::product(x, a);
+        match self.shape.words() {
+            1 => self.add_powers(1, &mut [0; 36], sums, first, x, packet),
+            2 => self.add_powers(2, &mut [0; 72], sums, first, x, packet),
+            4 => self.add_powers(4, &mut [0; 144], sums, first, x, packet),
+            8 => self.add_powers(8, &mut [0; 288], sums, first, x, packet),
+            16 => self.add_powers(16, &mut [0; TABLE], sums, first, x, packet),
+            w => self.add_powers(w, &mut [0; TABLE][..36 * w], sums, first, x, packet),
         }
     }
 

@@ -10,7 +10,9 @@
 pub mod block;
 pub mod code;
 pub mod fits;
+mod matrix;
 mod packet;
 mod solver;
+mod subsets;
 #[cfg(test)]
 mod tests;

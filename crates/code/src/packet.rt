@@ -1,51 +1,70 @@
-//! Packets multiplied by field elements, row by row.
-ghost use Rattle.std.specs.Prelude.{◌≡◌, ◌%◌, ◌^◌, ◌<◌, length};
-ghost use Rattle.layout.specs.Sizes.{packet_of};
-ghost use Rattle.code.specs.Packets.{AddedRow, AddedRows, AddedWords, Columns};
+//! Packets multiplied by the matrices of field elements and added, by tables of the packet's rows.
+ghost use Rattle.std.specs.Prelude.{◌≡◌, ℕ, ◌*◌, ◌^◌, ◌<◌, ◌≤◌, length, slice_index};
+ghost use Rattle.algebra.specs.Code.{Packet};
+ghost use Rattle.code.specs.Packets.{AddedRows};
+ghost use Rattle.code.specs.Subsets.{RowTable, selected};
 
-use field::Arithmetic;
-use layout::shape::Shape;
-use std::array;
+use crate::subsets::add_selected;
 
-// The matrix of the product by `a`: column j is a · α^j. Ten columns, for the widest field: a board has no heap.
-pub(crate) fn columns<F: Arithmetic>(a: u32) -> [u32; 10]
-    ensures { Columns F.Arithmetic.bits F.Arithmetic.prod (a % 2 ^ F.Arithmetic.bits) result }
+// Adds a matrix times a packet to the packet `target`.
+#[inline(always)]
+fn add_each_row(w: usize, m: usize, table: &[u32], matrix: &[u32; 10], target: &mut [u32])
+    requires m { m ≤ 10 }
+    requires table { 36 * w ≤ length table.now }
+    requires matrix { (i : ℕ) → i < m → slice_index matrix.now i < 2 ^ m }
+    requires target { length target.old ≡ m * w }
+    ensures { (p : Packet) → RowTable m w p table.now
+        → AddedRows m w matrix.now p target.old target.new }
 {
-    array::from_fn(|j| F::product(a, 1 << j))
-}
-
-// Adds `source` to `target`, word by word.
-pub(crate) fn add_words(target: &mut [u32], source: &[u32])
-    requires { length target.old ≡ length source.now }
-    ensures { AddedWords source.now target.old target.new }
-{
-    for (i, word) in source.iter().enumerate() {
-        target[i] ^= *word;
+    for i in 0..m {
+        add_selected(w, m, table, matrix[i], &mut target[i * w..i * w + w]);
     }
 }
 
-// Adds to a row those rows of the packet `source` that row `i` of the matrix selects.
-fn add_selected(columns: &[u32; 10], i: usize, shape: &Shape, source: &[u32], row: &mut [u32])
-    requires row { length row.old ≡ shape.now.words }
-    requires source { length source.now ≡ packet_of shape.now }
-    requires bit { i < shape.now.rows }
-    ensures { AddedRow shape.now columns.now i source.now row.old row.new }
+// The same. The widths that are met most are written out, for loops of known length.
+#[inline(always)]
+pub(crate) fn add_rows(w: usize, m: usize, table: &[u32], matrix: &[u32; 10], target: &mut [u32])
+    requires m { m ≤ 10 }
+    requires table { 36 * w ≤ length table.now }
+    requires matrix { (i : ℕ) → i < m → slice_index matrix.now i < 2 ^ m }
+    requires target { length target.old ≡ m * w }
+    ensures { (p : Packet) → RowTable m w p table.now
+        → AddedRows m w matrix.now p target.old target.new }
 {
-    for (column, words) in columns.iter().zip(source.chunks(shape.words())) {
-        if (*column >> i) & 1 == 1 {
-            add_words(row, words);
-        }
+    match w {
+        1 => add_each_row(1, m, table, matrix, target),
+        2 => add_each_row(2, m, table, matrix, target),
+        4 => add_each_row(4, m, table, matrix, target),
+        8 => add_each_row(8, m, table, matrix, target),
+        16 => add_each_row(16, m, table, matrix, target),
+        w => add_each_row(w, m, table, matrix, target),
     }
 }
 
-// Adds the matrix times the packet `source` to the packet `target`.
-pub(crate) fn add_product(columns: [u32; 10], shape: &Shape, source: &[u32], target: &mut [u32])
-    requires target { length target.old ≡ packet_of shape.now }
-    requires source { length source.now ≡ packet_of shape.now }
-    ensures { AddedRows shape.now columns source.now target.old target.new }
+// Adds a matrix times a packet to the packet `target`, and then multiplies the matrix by another, of which `rows` is the table: both steps pick by the same bits.
+#[inline(always)]
+pub(crate) fn add_rows_and_step(
+    w: usize,
+    m: usize,
+    table: &[u32],
+    rows: &[u32; 36],
+    matrix: &mut [u32; 10],
+    target: &mut [u32],
+)
+    requires m { m ≤ 10 }
+    requires table { 36 * w ≤ length table.now }
+    requires matrix { (i : ℕ) → i < m → slice_index matrix.old i < 2 ^ m }
+    requires target { length target.old ≡ m * w }
+    ensures added { (p : Packet) → RowTable m w p table.now
+        → AddedRows m w matrix.old p target.old target.new }
+    ensures stepped { (q : Packet) → RowTable m 1 q rows.now → (i : ℕ) → i < m
+        → slice_index matrix.new i ≡ selected m (slice_index matrix.old i) q 0 }
 {
-    let w = shape.words();
-    for i in 0..shape.rows() {
-        add_selected(&columns, i, shape, source, &mut target[i * w..i * w + w]);
+    for i in 0..m {
+        let row = matrix[i];
+        add_selected(w, m, table, row, &mut target[i * w..i * w + w]);
+        let mut next = [0];
+        add_selected(1, m, rows, row, &mut next);
+        matrix[i] = next[0];
     }
 }

@@ -1,5 +1,5 @@
 //! The packets at lost positions, from the sums of the others.
-ghost use Rattle.std.specs.Prelude.{◌≡◌, ℕ, ◌+◌, ◌%◌, ◌^◌, ◌<◌, ◌≤◌, IfOk};
+ghost use Rattle.std.specs.Prelude.{◌≡◌, ℕ, ◌+◌, ◌%◌, ◌^◌, ◌<◌, ◌≤◌, IfOk, slice_index};
 ghost use Rattle.refusal.specs.Numbers.{refused_with};
 ghost use Rattle.galois.specs.Field.{power};
 ghost use Rattle.layout.specs.Sizes.{packets_in, lost, LostBelow};
@@ -7,8 +7,8 @@ ghost use Rattle.layout.specs.Blocks.{Run, block_at, code_of};
 ghost use Rattle.layout.specs.Checks.{loss_refusal};
 ghost use Rattle.code.specs.Solving.{locator_at, Solvable};
 
-use crate::code::Code;
-use crate::packet::add_words;
+use crate::code::{Code, TABLE};
+use crate::subsets::add_words;
 use field::Arithmetic;
 use field::power::raise;
 use layout::losses::LossList;
@@ -67,23 +67,22 @@ impl<'a, F: Arithmetic> Solver<'a, F> {
         self.losses.positions().len()
     }
 
-    // Adds `a` times sum `from` to sum `to`, by way of `scratch`.
-    fn add_entry(&self, sums: &mut [u32], scratch: &mut [u32], a: u32, to: usize, from: usize)
+    // Adds `a` times sum `from` to sum `to`, by way of the table.
+    fn add_entry(&self, sums: &mut [u32], table: &mut [u32; TABLE], a: u32, to: usize, from: usize)
         requires sums { SumsRun self.now sums.old }
-        requires scratch { Scratch self.now scratch.old }
+        requires element { a < 2 ^ F.Arithmetic.bits }
         requires to { to < (code_in self.now).parity }
         requires from { from < (code_in self.now).parity }
-        ensures { Stepped (code_in self.now) (a % 2 ^ F.Arithmetic.bits) to from sums.old sums.new }
+        ensures { Stepped (code_in self.now) a to from sums.old sums.new }
     {
-        scratch.copy_from_slice(&sums[self.code.range(from)]);
+        self.code.fill_table(&sums[self.code.range(from)], table);
         self.code
-            .add_times(a, scratch, &mut sums[self.code.range(to)]);
+            .add_times(a, table, &mut sums[self.code.range(to)]);
     }
 
     // The forward steps: stage j adds x_j times each sum to the next, from the last one down to sum j.
-    fn forward(&self, sums: &mut [u32], scratch: &mut [u32])
+    fn forward(&self, sums: &mut [u32], table: &mut [u32; TABLE])
         requires sums { SumsRun self.now sums.old }
-        requires scratch { Scratch self.now scratch.old }
         ensures keeps { Forward self.now sums.old sums.new }
         ensures off { Behind self.now sums.old sums.new }
     {
@@ -91,28 +90,28 @@ impl<'a, F: Arithmetic> Solver<'a, F> {
         let t = self.count();
         for j in 1..t {
             for i in (j..t).rev() {
-                self.add_entry(sums, scratch, self.locators[j - 1], i, i - 1);
+                self.add_entry(sums, table, self.locators[j - 1], i, i - 1);
             }
         }
     }
 
-    // The product of x_n + x_s over the s from j to n - 1.
-    #[tactic(auto, unfolding(crate::specs::Solving::gap_of))]
-    fn gap(&self, j: usize, n: usize) -> u32
-        requires order { j ≤ n }
-        requires within { n < lost_count self.now }
-        ensures value { result ≡ gap_in self.now j n }
-        ensures element { result < 2 ^ F.Arithmetic.bits }
+    // What packet `n` is multiplied by for each sum j before it: the inverse of the product of x_n + x_s over the s from j to n - 1.
+    fn factors(&self, n: usize) -> [u32; 32]
+        requires { n < lost_count self.now }
+        ensures { (j : ℕ) → j < n
+            → slice_index result j ≡ F.Arithmetic.inv (gap_in self.now j n) }
     {
+        let mut factors = [0; 32];
         let mut product = 1;
-        for locator in &self.locators[j..n] {
-            product = F::product(self.locators[n] ^ *locator, product);
+        for j in (0..n).rev() {
+            product = F::product(self.locators[n] ^ self.locators[j], product);
+            factors[j] = F::inverse(product);
         }
-        product
+        factors
     }
 
     // One backward step: finds packet `n`, the last that is not found yet, and takes it out of the sums before it.
-    fn backward(&self, n: usize, sums: &mut [u32], scratch: &mut [u32])
+    fn backward(&self, n: usize, sums: &mut [u32], table: &mut [u32; TABLE], scratch: &mut [u32])
         requires sums { SumsRun self.now sums.old }
         requires scratch { Scratch self.now scratch.old }
         requires n { n < lost_count self.now }
@@ -120,13 +119,13 @@ impl<'a, F: Arithmetic> Solver<'a, F> {
         ensures keeps { Backward self.now n sums.old sums.new }
         ensures off { Behind self.now sums.old sums.new }
     {
-        scratch.copy_from_slice(&sums[self.code.range(n)]);
+        self.code.fill_table(&sums[self.code.range(n)], table);
         // In place of sum n stands sum 0 as it is now: with what sum 0 becomes added to it, it is packet n.
         sums.copy_within(self.code.range(0), self.code.range(n).start);
+        let factors = self.factors(n);
         for j in 0..n {
-            let theta = F::inverse(self.gap(j, n));
             self.code
-                .add_times(theta, scratch, &mut sums[self.code.range(j)]);
+                .add_times(factors[j], table, &mut sums[self.code.range(j)]);
         }
         scratch.copy_from_slice(&sums[self.code.range(0)]);
         add_words(&mut sums[self.code.range(n)], scratch);
@@ -139,9 +138,10 @@ impl<'a, F: Arithmetic> Solver<'a, F> {
         ensures solved { Solves self.now sums.old sums.new }
         ensures off { Behind self.now sums.old sums.new }
     {
-        self.forward(sums, scratch);
+        let mut table = [0; TABLE];
+        self.forward(sums, &mut table);
         for n in (1..self.count()).rev() {
-            self.backward(n, sums, scratch);
+            self.backward(n, sums, &mut table, scratch);
         }
     }
 

@@ -1,19 +1,27 @@
-use Rattle.std.proofs.Common.{◌≡◌, ◌+◌, ◌-◌, ◌*◌, ◌%◌, ◌^◌, ◌<◌, ap, ◌∙◌, ap₂, mod-lt, mod-eq_of_lt, arith, pow_pos}
+use Rattle.std.proofs.Common.{◌≡◌, ◌+◌, ◌-◌, ◌*◌, ◌<◌, get_or, sym, ap, ◌∙◌, ap₂, arith}
 use lib.Bits.{bit_xor}
 use Rattle.algebra.specs.Code.{scaled}
-use Rattle.algebra.specs.Laws.{gap}
 use Rattle.algebra.specs.Loops.{theta}
-use Rattle.algebra.specs.Grids.{grid_ops}
+use Rattle.std.specs.List.{between}
 use Rattle.layout.specs.Blocks.{code_of, packet_in}
 use Rattle.layout.proofs.Entries.{word_lt}
 use Rattle.code.specs.Solving.{locator_at}
-use Rattle.code.proofs.Backs.{Cleared, factor, gap_is, cleared_none, cleared_more, cleared_all}
+use Rattle.code.proofs.Backs.{Cleared, factor, gap_is, gap_lt, cleared_none, cleared_more, cleared_all}
 use Rattle.code.proofs.Ranges.{range_read, range_written, range_copied}
 use Rattle.code.proofs.solver.Solver.backward.Goals as goal
 
+pub add_times-requires-clause-element : goal.add_times-requires-clause-element
+add_times-requires-clause-element g c =
+    let f = g.F.Arithmetic in
+    let s = c.args.self.now.code.now.shape in
+    let v = c.args.self.now.solvable in
+    let x = c.args.self.now.locators in
+    rw (c.factors-factors.ensures c.loop-j.j c.loop-j-test.true, sym c.args.self.now.code.now.width)
+    (v.laws.inverse_lt _ (gap_lt v.laws (locator_at x) v.elements c.loop-j.j (c.args.n - c.loop-j.j) (locator_at x c.args.n) (v.elements c.args.n)))
+
 pub loop-j-preserved : goal.loop-j-preserved
 unfolding theta
-loop-j-preserved g c = λ e d.
+loop-j-preserved g c = λ e z o d.
     let f = g.F.Arithmetic in
     let s = c.args.self.now.code.now.shape in
     let C = code_of s f.prod in
@@ -21,18 +29,15 @@ loop-j-preserved g c = λ e d.
     let n = c.args.n in
     let j = c.loop-j.j in
     let t = c.loop-j.sums in
-    let z = packet_in s.words c.copy_from_slice.new.self in
     let v = c.args.self.now.solvable in
     let within : j < C.parity = let h = c.requires.n in let k = v.few in let l = c.loop-j-test.true in omega arith in
     let w = range_written c.range-in-loop-j.ensures t (c.loop-j.auto.sums ∙ c.copy_within.auto.self ∙ c.requires.sums) within c.add_times.new.target c.add_times.auto.target in
-    let gapped : c.gap.result % 2 ^ f.bits ≡ gap (grid_ops C f.inv) (locator_at x) j (n - j) (locator_at x n) =
-    mod-eq_of_lt c.gap.ensures.element ∙ c.gap.ensures.value ∙ gap_is C f.inv (locator_at x) j (n - j) (locator_at x n) in
-    let is : c.inverse-theta.result ≡ factor C f.inv x n j = c.inverse-theta.ensures ∙ ap f.inv gapped in
-    let lt : c.inverse-theta.result < 2 ^ f.bits = rw c.inverse-theta.ensures (g.met.F.Arithmetic.field.inverse_lt _ (mod-lt c.gap.result (pow_pos f.bits))) in
+    let is : get_or c.factors-factors.result j 0 ≡ factor C f.inv x n j =
+    c.factors-factors.ensures j c.loop-j-test.true ∙ ap f.inv (gap_is C f.inv (locator_at x) j (n - j) (locator_at x n)) in
     cleared_more v n z c.requires.some c.requires.n j e t _ c.loop-j-test.true
-    (λ i k h l. w.at i k h l ∙ c.add_times.ensures i k h l
-    ∙ ap₂ (λ a b. bit_xor a (scaled C b z i k)) (range_read c.range-in-loop-j.ensures t i k h l) (mod-eq_of_lt lt ∙ is))
-    (λ μ _. w.off μ) (c.loop-j.invariant e d)
+    (λ i k h l. w.at i k h l ∙ c.add_times.ensures z o i k h l
+    ∙ ap₂ (λ a b. bit_xor a (scaled C b z i k)) (range_read c.range-in-loop-j.ensures t i k h l) is)
+    (λ μ _. w.off μ) (c.loop-j.invariant e z o d)
 
 pub returns : goal.returns
 returns g c =
@@ -43,7 +48,7 @@ returns g c =
     let n = c.args.n in
     let e = c.args.sums.now in
     let u = c.loop-j.sums in
-    let z = packet_in s.words c.copy_from_slice.new.self in
+    let z = packet_in s.words (between c.range.result.start c.range.result.end e) in
     let v = c.args.self.now.solvable in
     let within : n < C.parity = let h = c.requires.n in let k = v.few in omega arith in
     let w = range_written c.range-5.ensures u (c.loop-j.auto.sums ∙ c.copy_within.auto.self ∙ c.requires.sums) within c.add_words.new.target c.add_words.auto.target in
@@ -51,13 +56,13 @@ returns g c =
     let all : c.loop-j.j ≡ n = omega arith in
     let started : Cleared C f.inv x c.args.self.now.losses.now.len n z 0 e c.copy_within.new.self =
     cleared_none v n z c.requires.some c.requires.n e c.copy_within.new.self
-    (λ i k h l. ap (λ r. packet_in s.words r i k) c.copy_from_slice.ensures.after ∙ range_read c.range.ensures e i k h l)
+    (range_read c.range.ensures e)
     (range_copied c.range-2.ensures c.range-3.ensures e c.copy_within.new.self by.0 by.1 by.2) in
-    let d : Cleared C f.inv x c.args.self.now.losses.now.len n z n e u = rw all at (c.loop-j.invariant e started) in
+    let d : Cleared C f.inv x c.args.self.now.losses.now.len n z n e u = rw all at (c.loop-j.invariant e z c.fill_table.ensures started) in
     record {
       keeps = cleared_all v n z c.requires.some c.requires.n e u _ d
           (λ i k h l. w.at i k h l ∙ c.add_words.ensures (i * s.words + k) (let w = word_lt C i k h l in omega arith)
-          ∙ ap₂ bit_xor (range_read c.range-5.ensures u i k h l) (ap (λ r. packet_in s.words r i k) c.copy_from_slice-2.ensures.after ∙ range_read c.range-4.ensures u i k h l))
+          ∙ ap₂ bit_xor (range_read c.range-5.ensures u i k h l) (ap (λ r. packet_in s.words r i k) c.copy_from_slice.ensures.after ∙ range_read c.range-4.ensures u i k h l))
           (λ μ _. w.off μ);
       off = λ μ h k i b a q. w.off μ (λ r. let m = c.requires.n in omega arith) i b a q ∙ d.off μ h k i b a q;
     }

@@ -24,9 +24,7 @@ loop-i-preserved g c =
     let x = c.args.self.now.locators in
     let j = c.loop-j.j in
     let i = c.loop-i.i in
-    let node : locator_at x (j - 1) % 2 ^ f.bits ≡ locator_at x (j - 1) = mod-eq_of_lt (rw (← c.args.self.now.code.now.width) (v.elements (j - 1))) in
-    let d : Stepped C (locator_at x (j - 1)) (i - 1) (i - 1 - 1) c.loop-i.sums c.add_entry.new.sums =
-    subst (λ a. Stepped C a (i - 1) (i - 1 - 1) c.loop-i.sums c.add_entry.new.sums) node c.add_entry.ensures in (
+    let d : Stepped C (locator_at x (j - 1)) (i - 1) (i - 1 - 1) c.loop-i.sums c.add_entry.new.sums = c.add_entry.ensures in (
       λ I. Iff.trans (c.loop-i.invariant.0 I) (stage_turn v (j - 1) (i - 1) (i - 1 - 1) (i - j) (i - 1 - j) (omega arith) (omega arith) (omega arith) (omega arith) _ _ d I),
       λ μ h k a b p q. d.off μ k (λ z. omega arith) a b p q ∙ c.loop-i.invariant.1 μ h k a b p q,
     )

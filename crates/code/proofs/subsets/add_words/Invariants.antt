@@ -1,6 +1,6 @@
 use Rattle.std.proofs.Common.{◌≡◌, ℕ, ◌<◌, ◌≤◌, get_or}
 use lib.Bits.{bit_xor}
-use Rattle.code.proofs.packet.add_words.Given as goal
+use Rattle.code.proofs.subsets.add_words.Given as goal
 
 abbrev pub invariant-loop-i : goal.invariant-loop-i
 invariant-loop-i l = record {

@@ -3,7 +3,7 @@ use lib.Pow.{pow-lt}
 use borrow.Author.Tests.{tests}
 use Rattle.std.proofs.lemmas.Nat.{one_shl}
 use Rattle.code.proofs.FromFn.{each_made}
-use Rattle.code.proofs.packet.columns.Goals as goal
+use Rattle.code.proofs.matrix.columns.Goals as goal
 
 -- 1 << j is 2^j, an element
 unit : (m j : ℕ) → j < m → m ≤ 10 → (1 * 2 ^ j) % 2 ^ 32 % 2 ^ m ≡ 2 ^ j
