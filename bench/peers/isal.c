@@ -63,6 +63,12 @@ static bool by_whole_inverse(void *state)
     return true;
 }
 
+static void add(uint8_t *restrict sum, const uint8_t *restrict packet, int bytes)
+{
+    for (int i = 0; i < bytes; i++)
+        sum[i] ^= packet[i];
+}
+
 /* The first t parity packets of what is left, added to those of the block: sums of the lost packets, which a t x t inverse turns
    into these. */
 static bool by_sums(void *state)
@@ -72,8 +78,7 @@ static bool by_sums(void *state)
     int k = w->sources, t = w->lost;
     s->apply(w->bytes, k, t, s->parity_tables, s->zeroed, s->sums);
     for (int j = 0; j < t; j++)
-        for (int i = 0; i < w->bytes; i++)
-            s->sums[j][i] ^= s->parity[j][i];
+        add(s->sums[j], s->parity[j], w->bytes);
     uint8_t part[MOST_LOST * MOST_LOST], inverse[MOST_LOST * MOST_LOST];
     for (int i = 0; i < t; i++)
         for (int j = 0; j < t; j++)
