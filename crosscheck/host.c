@@ -1,6 +1,6 @@
 /* Reads host calls from standard input, one to a line, makes each over libguyekpan.a, and writes what it answers and the
    strings afterwards, one to a line. README.md has the format. Each call is made on a stack of GUYEKPAN_STACK bytes: one that
-   needs more ends the program. */
+   needs more ends the program. So do, before all others, the calls that need most, on a longest block. */
 
 #define _DEFAULT_SOURCE
 
@@ -125,6 +125,39 @@ static unsigned long make_on(unsigned char *stack, struct call *call)
     return made.answer;
 }
 
+static struct string zeros(size_t length)
+{
+    struct string string = { calloc(length, 1), length };
+    if (string.bytes == NULL)
+        fail("no memory", "");
+    return string;
+}
+
+static void free_strings(struct call *call)
+{
+    for (int i = 0; i < call->count; i++)
+        free(call->strings[i].bytes);
+}
+
+/* The calls that need most stack: a block of 8,192 words, here all zero, and as many losses as may be. */
+static void make_longest(unsigned char *stack)
+{
+    enum { M = 8, N = 64, K = 32, W = 16, R = N - K, PACKET = 4 * M * W };
+    struct string losses = zeros(2 * R);
+    for (int i = 0; i < R; i++)
+        losses.bytes[2 * i + 1] = (unsigned char) i;
+    struct call calls[] = {
+        { "host-encode", M, N, K, W, { zeros(K * PACKET), zeros(R * PACKET) }, 2 },
+        { "host-check", M, N, K, W, { zeros(N * PACKET), zeros((R + 1) * PACKET) }, 2 },
+        { "host-repair", M, N, K, W, { zeros(N * PACKET), losses, zeros((R + 1) * PACKET) }, 3 },
+    };
+    for (size_t i = 0; i < sizeof calls / sizeof calls[0]; i++) {
+        if (make_on(stack, &calls[i]) != 0)
+            fail("not 0 on zeros", calls[i].name);
+        free_strings(&calls[i]);
+    }
+}
+
 static void write_result(const struct call *call, unsigned long number)
 {
     printf("%lu", number);
@@ -141,14 +174,14 @@ int main(void)
     char *line = NULL;
     size_t room = 0;
     unsigned char *stack = new_stack();
+    make_longest(stack);
     /* Line by line, so that the results before a call that ends the program are seen. */
     setvbuf(stdout, NULL, _IOLBF, 0);
     while (getline(&line, &room, stdin) > 0) {
         struct call call = read_call(line);
         unsigned long number = make_on(stack, &call);
         write_result(&call, number);
-        for (int i = 0; i < call.count; i++)
-            free(call.strings[i].bytes);
+        free_strings(&call);
     }
     free(line);
     return 0;

@@ -30,9 +30,9 @@
 #include <stddef.h>
 #include <stdint.h>
 
-/* The bytes of stack that a call needs at most, 72 KB. This is measured on x86-64 and not proved: a repair takes 68 KB, and some
-   2 KB more where the loader has yet to find the C library's memcpy. */
-#define GUYEKPAN_STACK 73728
+/* The bytes of stack that a call needs at most, 60 KB. This is measured on x86-64 and not proved: a repair of 8,192 words takes
+   53 KB, and some 2 KB more where the loader has yet to find the C library's memcpy. */
+#define GUYEKPAN_STACK 61440
 
 #ifdef __cplusplus
 extern "C" {
