@@ -11,7 +11,7 @@ use Rattle.layout.specs.declared.shape.Dimensions.{Dimensions}
 use Rattle.layout.specs.declared.shape.Shape.{Shape}
 use Rattle.layout.specs.declared.losses.LossList.{LossList}
 use Rattle.layout.specs.Sizes.{parity_of, Packets, LostBelow}
-use Rattle.layout.specs.Blocks.{code_of, code_for, ZeroRun}
+use Rattle.layout.specs.Blocks.{code_of, ZeroRun}
 use Rattle.layout.specs.Checks.{CheckedFirst, at_width}
 use Rattle.layout.specs.Made.{dimensions_of, Listed}
 use Rattle.layout.proofs.Passes.{passed, pass_both, width_ok, run_ok, losses_ok}
@@ -25,9 +25,12 @@ lost_below s xs l listed k lt =
     let below = listed.order.1 k (omega arith) in
     subst (λ z. z < s.positions) (sym (sym (get_or-take l.len l.at k 0 lt) ∙ ap (λ ys. get_or ys k 0) listed.at)) below
 
-module _ (d : Dimensions) (s : Shape) (l : LossList) (block losses work work' : List ℕ) (of : dimensions_of s ≡ d) (eight : s.rows ≡ 8)
-    (checked : host_check_refusal d block work ≡ None) (positions : Positions s.positions losses) (listed : Listed s (positions_of losses) l) (cleared : ZeroRun work')
+module _ (s : Shape) (l : LossList) (block losses work work' : List ℕ) (eight : s.rows ≡ 8)
+    (checked : host_check_refusal (dimensions_of s) block work ≡ None) (positions : Positions s.positions losses) (listed : Listed s (positions_of losses) l) (cleared : ZeroRun work')
     (xs ws : List ℕ) (spell : xs ≡ words_of block) (whole : Packets s s.positions xs) (room : Packets s (parity_of s + 1) ws) where
+  abbrev d : Dimensions
+  d = dimensions_of s
+
   abbrev C : Code
   C = code_of s octet
 
@@ -41,18 +44,15 @@ module _ (d : Dimensions) (s : Shape) (l : LossList) (block losses work work' : 
       (pass_both _ _ (pass_both _ _ (run_ok s s.positions xs 0 whole) (run_ok s (parity_of s + 1) ws 1 room))
       (losses_ok s l (lost_below s (positions_of losses) l listed) (let few = listed.enough in let len = listed.len in omega arith)))
 
-  named_positions : Positions d.positions losses
-  named_positions = rw (ap (λ d. Dimensions.positions d) of) at positions
-
   attempted : (block' : List ℕ) (r : Result (Unit {0}) Refusal) → Restored C l (words_of block) (words_of block') r → HostAttempted d losses block block' work work' r
   attempted block' r restored = record {
     shape = s;
-    of = of;
+    of = refl;
     passed = checked;
-    positions = named_positions;
+    positions = positions;
     list = l;
     listed = listed;
-    restored = subst (λ (d : Dimensions). Restored (code_for d octet) l (words_of block) (words_of block') r) of restored;
+    restored = restored;
     cleared = cleared;
   }
 

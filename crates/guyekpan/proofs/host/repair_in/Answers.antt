@@ -1,4 +1,4 @@
-use Rattle.std.proofs.Common.{◌≡◌, ◌+◌, take, None, sym, refl, ◌∙◌, rules}
+use Rattle.std.proofs.Common.{◌≡◌, ◌+◌, take, None, sym, ◌∙◌, rules}
 use Rattle.layout.specs.Made.{dimensions_of}
 use Rattle.layout.specs.Sizes.{parity_of, Packets}
 use Rattle.std.proofs.lemmas.List.{places}
@@ -12,8 +12,8 @@ returns-then-is_ok-clause-after g c =
     let checked : host_check_refusal (dimensions_of s) c.args.block.now c.args.work.now ≡ None = search rules in
     let long : Packets s s.positions c.read.new.words = search (rules, places) in
     let room : Packets s (parity_of s + 1) (take c.in_ok-r.r c.split_at_mut-run.result.1.now) = search (rules, places) in
-    repaired (dimensions_of s) s c.in_ok-lost.lost c.args.block.now c.args.losses.now c.args.work.now c.clear.new.bytes
-    refl c.args.one.now.octet checked c.in_ok-lost.ensures.0 c.in_ok-lost.ensures.1 c.clear.ensures _ _
+    repaired s c.in_ok-lost.lost c.args.block.now c.args.losses.now c.args.work.now c.clear.new.bytes
+    c.args.one.now.octet checked c.in_ok-lost.ensures.0 c.in_ok-lost.ensures.1 c.clear.ensures _ _
     (sym c.read.ensures) long room _ c.write.new.bytes c.repair-outcome.result c.write.ensures (sym c.is_ok.ensures.value ∙ c.if-is_ok.true) c.repair-outcome.ensures.repaired
 
 pub returns-else-is_ok-clause-after : goal.returns-else-is_ok-clause-after
@@ -22,6 +22,6 @@ returns-else-is_ok-clause-after g c =
     let checked : host_check_refusal (dimensions_of s) c.args.block.now c.args.work.now ≡ None = search rules in
     let long : Packets s s.positions c.read.new.words = search (rules, places) in
     let room : Packets s (parity_of s + 1) (take c.in_ok-r.r c.split_at_mut-run.result.1.now) = search (rules, places) in
-    unrepaired (dimensions_of s) s c.in_ok-lost.lost c.args.block.now c.args.losses.now c.args.work.now c.clear.new.bytes
-    refl c.args.one.now.octet checked c.in_ok-lost.ensures.0 c.in_ok-lost.ensures.1 c.clear.ensures _ _
+    unrepaired s c.in_ok-lost.lost c.args.block.now c.args.losses.now c.args.work.now c.clear.new.bytes
+    c.args.one.now.octet checked c.in_ok-lost.ensures.0 c.in_ok-lost.ensures.1 c.clear.ensures _ _
     (sym c.read.ensures) long room c.repair-outcome.result (sym c.is_ok.ensures.value ∙ c.if-is_ok.false) c.repair-outcome.ensures.answer
