@@ -92,21 +92,24 @@ impl<'a, S: SlotStore> StoredBlock<'a, S> {
     }
 
     // Adds the packets that are held to sums that are zero at first, each by way of `scratch`. Apart from the same step over a block
-    // run in `code`, since a run lends its packets, where a store copies them and may refuse.
+    // run in `code`, since a run lends its packets, where a store copies them and may refuse. The list tells which are held; a mark is
+    // looked at by `get` alone, which refuses an empty slot.
     fn absorb_held<F: Arithmetic>(
         &self,
         codec: &Code<F>,
+        losses: &LossList,
         sums: &mut [u32],
         scratch: &mut [u32],
     ) -> Result<(), Refusal>
         requires codec { codec.now.shape ≡ self.now.shape }
+        requires missing { Missing self.now.shape (grid_in self.now) self.now.block losses.now }
         requires sums { Packets self.now.shape (parity_of self.now.shape) sums.old }
         requires zero { ZeroRun sums.old }
         requires scratch { length scratch.old ≡ packet_of self.now.shape }
         ensures { HeldSummed (code codec.now) (grid_in self.now) self.now.block sums.new result }
     {
         for position in 0..self.shape.positions() {
-            if self.held(position)? {
+            if !losses.contains(position) {
                 self.get(position, scratch)?;
                 codec.absorb(sums, position, scratch)?;
             }
@@ -129,7 +132,7 @@ impl<'a, S: SlotStore> StoredBlock<'a, S> {
     {
         clear(work);
         let (sums, scratch) = work.split_at_mut(self.shape.parity() * self.shape.packet());
-        self.absorb_held(codec, sums, scratch)?;
+        self.absorb_held(codec, losses, sums, scratch)?;
         codec.rebuild(losses, sums, scratch)
     }
 }
