@@ -8,7 +8,7 @@ use Rattle.layout.specs.declared.shape.Shape.{Shape}
 use Rattle.layout.specs.Checks.{run_refusal}
 use Rattle.layout.specs.Made.{dimensions_of, shape_refusal}
 use Rattle.algebra.specs.Code.{count}
-use Rattle.store.specs.Grids.{Grid, format_refusal, get_refusal, Emptied, Filled}
+use Rattle.store.specs.Grids.{Grid, format_refusal, Emptied, Filled}
 use Rattle.frame.specs.Frames.{Sight, shape, packet, refused}
 use Rattle.receiver.specs.declared.Taken.{Taken}
 use Rattle.receiver.specs.declared.Taken.TheVariants.{Shaped, Fresh, Known}
@@ -55,11 +55,6 @@ same_words (x ∷ xs) (y ∷ ys) = x == y && same_words xs ys
 abbrev pub slot_holds : Option (List ℕ) → List ℕ → Bool
 slot_holds None ws = false
 slot_holds (Some held) ws = same_words held ws
-
--- what a comparison with a slot answers; the store may refuse to read the slot
-abbrev pub Compared : Grid → ℕ → ℕ → List ℕ → Result Bool Refusal → Type 0
-Compared g i j ws (Ok same) = same ≡ slot_holds (g.slots i j) ws
-Compared g i j ws (Err e) = Some (said e) ≡ get_refusal g i j ws
 
 -- OtherPacket, if the slot holds another packet
 abbrev pub other_refusal : Option (List ℕ) → List ℕ → Option (ℕ × List ℕ)

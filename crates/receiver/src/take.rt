@@ -1,10 +1,11 @@
 //! Frames in.
-ghost use Rattle.std.specs.Prelude.{◌≡◌, ◌≤◌, length, Some};
+ghost use Rattle.std.specs.Prelude.{◌≡◌, ◌≤◌, length, IfOk, Some};
 ghost use Rattle.refusal.specs.Numbers.{refused_with};
 ghost use Rattle.layout.specs.Sizes.{packet_of};
 ghost use Rattle.frame.specs.Frames.{parse};
+ghost use Rattle.store.specs.Calls.{refusal_of_get};
 ghost use Rattle.receiver.specs.Meaning.{StaysShut, means};
-ghost use Rattle.receiver.specs.Calls.{start_refusal, TookShape, Compared, packet_refusal, TookPacket, take_refusal, Took};
+ghost use Rattle.receiver.specs.Calls.{start_refusal, TookShape, slot_holds, packet_refusal, TookPacket, take_refusal, Took};
 
 use crate::{Receiver, Taken};
 use field::Arithmetic;
@@ -41,10 +42,13 @@ impl<F: Arithmetic, S: SlotStore> Receiver<F, S> {
         Ok(Taken::Shaped)
     }
 
-    // Whether a slot holds just these words.
+    // Whether a filled slot holds just these words; refused as the store refuses to read it.
     fn holds(&self, slot: Slot, words: &[u32]) -> Result<bool, Refusal>
         requires { length words.now ≤ 160 }
-        ensures { Compared (S.SlotStore.grid self.now.store) slot.row slot.column words.now result }
+        ensures answer { refused_with result
+            ≡ refusal_of_get (S.SlotStore.grid self.now.store) slot words.now }
+        ensures same { IfOk result (λ same. same ≡ slot_holds
+            ((S.SlotStore.grid self.now.store).slots slot.row slot.column) words.now) }
     {
         // Room for a packet of any shape: a board has no heap.
         let mut packet = [0; LONGEST];
@@ -53,7 +57,7 @@ impl<F: Arithmetic, S: SlotStore> Receiver<F, S> {
         Ok(*held == *words)
     }
 
-    // Puts a packet into its slot, unless it is there already.
+    // Puts a packet into its slot, unless it is there already. The slot is read first: a packet that is known leaves a store's lock shut.
     fn keep(
         &mut self,
         shape: Shape,
@@ -70,14 +74,15 @@ impl<F: Arithmetic, S: SlotStore> Receiver<F, S> {
     {
         shape.check_run(1, payload, 0)?;
         let slot = self.block(block)?.slot(position)?;
-        if self.store.held(slot)? {
-            if self.holds(slot, payload)? {
-                return Ok(Taken::Known);
+        match self.holds(slot, payload) {
+            Ok(true) => Ok(Taken::Known),
+            Ok(false) => Err(Refusal::OtherPacket),
+            Err(Refusal::SlotEmpty) => {
+                self.store.put(slot, payload)?;
+                Ok(Taken::Fresh)
             }
-            return Err(Refusal::OtherPacket);
+            Err(refusal) => Err(refusal),
         }
-        self.store.put(slot, payload)?;
-        Ok(Taken::Fresh)
     }
 
     /// Takes a frame: a shape starts a transmission, also in the midst of one; a packet goes into its slot. A refused frame leaves
