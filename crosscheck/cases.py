@@ -58,6 +58,11 @@ def some_shape(rng, field, words, blocks=64):
     n = rng.randint(2, reach)
     k = rng.randint(max(1, n - 32), n - 1)
     w = rng.choice([1, 1, 2, 3, 16, rng.randint(1, 16)])
+    if chance(rng, 3):
+        # Any width, at the cost of positions: else a wide row seldom has room.
+        w = rng.randint(1, 16)
+        n = max(2, min(n, words // (field.width * w)))
+        k = rng.randint(max(1, n - 32), n - 1)
     while n * field.width * w > words and w > 1:
         w -= 1
     while n * field.width * w > words and n > k + 1:
