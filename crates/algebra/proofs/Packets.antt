@@ -42,7 +42,7 @@ module _ {m : ℕ} {prod : ℕ → ℕ → ℕ} {inv : ℕ → ℕ} (K : FieldLa
   prod_pick a h (suc b) c = refl
 
   -- a product by the bits of its second factor
-  prod_bits : (a c : ℕ) → a < 2 ^ m → c < 2 ^ m → prod a c ≡ sum words m (λ j. pick words (bit j c) (prod a (2 ^ j)))
+  pub prod_bits : (a c : ℕ) → a < 2 ^ m → c < 2 ^ m → prod a c ≡ sum words m (λ j. pick words (bit j c) (prod a (2 ^ j)))
   prod_bits a c ha hc =
       ap (prod a) (sym (all_bits m c hc))
       ∙ prod_sum a ha m (λ j. pick words (bit j c) (2 ^ j)) (λ j l. pick_lt (bit j c) (2 ^ j) (pow_below j m l))

@@ -1,8 +1,9 @@
 -- What adding packets to the sums keeps from turn to turn.
-use Rattle.std.proofs.Common.{ℕ, ◌+◌, ◌*◌, ◌<◌, ◌≤◌, List, sym, refl, ap, ◌∙◌, ap₂, add-one, arith}
+use Rattle.std.proofs.Common.{◌≡◌, ℕ, ◌+◌, ◌*◌, ◌<◌, ◌≤◌, List, sym, refl, ap, ◌∙◌, ap₂, add-one, arith}
 use native.Mathlib.Decide.{ℕ_discrete}
 use lib.Bits.{bit_xor, xor_zero_r}
-use Rattle.galois.specs.Field.{power}
+use Rattle.galois.specs.Field.{FieldLaws, power}
+use Rattle.galois.proofs.Powers.{two_lt, power_mul}
 use Rattle.algebra.specs.Code.{Packet, Block, SamePacket, ZeroPacket, scaled, xors, Code}
 use Rattle.algebra.proofs.Words.{xors_none, scaled_same, scaled_zero}
 use Rattle.layout.specs.Blocks.{packet_in, block_at, ZeroRun}
@@ -29,6 +30,13 @@ module _ (C : Code) (first x : ℕ) (p : Packet) (e : List ℕ) where
     below = λ μ h i c a b. w.off μ (λ q. omega arith) i c a b ∙ d.below μ h i c a b;
     above = λ μ h l i c a b. w.off μ (λ q. omega arith) i c a b ∙ d.above μ (omega arith) l i c a b;
   }
+
+-- a packet with the locator of a position is that position's share
+pub share_added : (C : Code) {inv : ℕ → ℕ} → FieldLaws C.rows C.product inv → (x q : ℕ) (p : Packet) (e t : List ℕ) → x ≡ power C.product 2 q
+    → Absorbed C 0 C.parity x p e t → ShareAdded C q p e t
+share_added C laws x q p e t is d μ h i c a b =
+    d.at μ (omega arith) h i c a b
+    ∙ ap (λ y. bit_xor (block_at C e μ i c) (scaled C y p i c)) (ap (λ y. power C.product y μ) is ∙ power_mul laws 2 q μ (two_lt laws))
 
 module _ (C : Code) (b : Block) where
   -- the sums of no packets are zero

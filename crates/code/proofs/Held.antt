@@ -1,5 +1,5 @@
 -- Packets read from a run one after another.
-use Rattle.std.proofs.Common.{◌≡◌, ℕ, ◌+◌, true, false, List, sym, ap, ◌∙◌, subst, zero-add, arith}
+use Rattle.std.proofs.Common.{◌≡◌, ℕ, ◌+◌, true, false, List, sym, ap, ◌∙◌, subst, zero-add, add-zero, arith}
 use Rattle.algebra.specs.Code.{Packet, Block, SamePacket, among, Code}
 use Rattle.layout.specs.declared.losses.LossList.{LossList}
 use Rattle.layout.specs.Sizes.{lost}
@@ -8,6 +8,10 @@ use Rattle.code.specs.Sums.{ShareAdded, SumsTo}
 use Rattle.code.proofs.Absorbs.{sums_held, sums_lost}
 use Rattle.code.specs.Held.{Reads, Summed}
 use Rattle.code.proofs.Repairs.{left_of, left_gone, left_same}
+
+-- no packet yet
+pub summed_none : (C : Code) (l : LossList) (start : ℕ) (run e : List ℕ) → Summed C l start 0 run e e
+summed_none C l start run e b r z = subst (λ k. SumsTo C b k e) (sym (add-zero start)) z
 
 module _ (C : Code) (l : LossList) (start n : ℕ) (run e t : List ℕ) (d : Summed C l start n run e t) where
   -- one packet less

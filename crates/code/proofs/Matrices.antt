@@ -3,18 +3,19 @@ use Rattle.std.proofs.Common.{◌≡◌, ℕ, zero, suc, ◌+◌, ◌*◌, ◌^�
 use native.Mathlib.Decide.{ℕ_discrete}
 use lib.Bits.{bit_xor, xor_lt, xor_self, xor_zero_l, xor_zero_r}
 use lib.Pow.{pow_pos, pow-lt}
-use Rattle.galois.specs.Field.{FieldLaws, power}
-use Rattle.galois.proofs.Linear.{digit_lt}
+use Rattle.galois.specs.Field.{FieldLaws}
+use Rattle.galois.proofs.Linear.{digit_lt, sum_digit}
 use Rattle.galois.proofs.Powers.{power_alpha}
-use Rattle.algebra.specs.Code.{Code, Packet, xors, bit, scaled}
+use Rattle.algebra.specs.Code.{Code, Packet, SamePacket, xors, bit, scaled}
+use Rattle.layout.specs.Blocks.{packet_in, block_at, size_of}
 use Rattle.algebra.specs.Laws.{Laws, sum}
-use Rattle.algebra.specs.Packets.{words, pick, Rows, rows_xor, row, mixed, act, ops, Ok, Nz}
-use Rattle.algebra.proofs.Sums.{sum_zero, sum_suc, sum_ext}
+use Rattle.algebra.specs.Packets.{words, pick, Rows, rows_xor, mixed, act, ops, Ok, Nz}
+use Rattle.algebra.proofs.Sums.{sum_zero, sum_suc, sum_ext, sum_add}
 use Rattle.algebra.proofs.Bits.{bit_lt, bit_xor_lem, bit_zero, bit_one, bit_other, pick_times, all_bits}
-use Rattle.algebra.proofs.Packets.{row_at, packets}
-use Rattle.algebra.proofs.Words.{xors_sum, xors_ext}
+use Rattle.algebra.proofs.Packets.{row_at, packets, prod_bits}
+use Rattle.algebra.proofs.Words.{xors_sum, xors_ext, xors_none}
 use Rattle.code.specs.Subsets.{RowTable, selected}
-use Rattle.code.specs.Matrices.{matrix_row, MatrixOf}
+use Rattle.code.specs.Matrices.{matrix_row}
 use Rattle.code.proofs.Selecting.{selected_same}
 
 xors_lt : (m n : ℕ) (f : ℕ → ℕ) → ((k : ℕ) → k < n → f k < 2 ^ m) → xors n f < 2 ^ m
@@ -133,3 +134,47 @@ table_same {m} {w} {p} {q} same t = record {
   middle = λ v c h l. t.middle v c h l ∙ selected_same _ v c (λ j. p (4 + j)) (λ j. q (4 + j)) (λ j g. same (4 + j) c (omega arith) l);
   high = λ v c h l. t.high v c h l ∙ selected_same _ v c (λ j. p (8 + j)) (λ j. q (8 + j)) (λ j g. same (8 + j) c (omega arith) l);
 }
+
+-- a number's bits select, of a sum of numbers, what the numbers select
+module _ (m : ℕ) (p : Packet) (c : ℕ) where
+  selected_sum : (x y : ℕ) → selected m (bit_xor x y) p c ≡ bit_xor (selected m x p c) (selected m y p c)
+  selected_sum x y =
+      xors_ext m _ _ (λ j l. ap (λ u. u * p j c) (bit_xor_lem j x y) ∙ sum_digit (bit j x) (bit j y) (p j c) (bit_lt j x) (bit_lt j y))
+      ∙ xors_sum m _ ∙ sum_add words m _ _ ∙ ap₂ bit_xor (sym (xors_sum m _)) (sym (xors_sum m _))
+
+  selected_zero : selected m 0 p c ≡ 0
+  selected_zero = xors_none m _ (λ j l. ap (λ u. u * p j c) (bit_zero j) ∙ zero-mul (p j c))
+
+  selected_many : (n : ℕ) (f : ℕ → ℕ) → selected m (xors n f) p c ≡ xors n (λ j. selected m (f j) p c)
+  unfolding xors
+  selected_many zero f = selected_zero
+  selected_many (suc n) f = selected_sum (xors n f) (f n) ∙ ap (λ u. bit_xor u (selected m (f n) p c)) (selected_many n f)
+
+  selected_digit : (d x : ℕ) → d < 2 → selected m (d * x) p c ≡ d * selected m x p c
+  selected_digit zero x h = ap (λ u. selected m u p c) (zero-mul x) ∙ selected_zero ∙ sym (zero-mul (selected m x p c))
+  selected_digit (suc zero) x h = ap (λ u. selected m u p c) (one-mul x) ∙ sym (one-mul (selected m x p c))
+  selected_digit (suc (suc d)) x h = absurd (omega arith)
+
+-- a times a packet, by the bits of a and the multiples of the packet by the elements 2^j
+pub scaled_bits : (C : Code) {inv : ℕ → ℕ} (K : FieldLaws C.rows C.product inv) (a i c : ℕ) (p : Packet) → a < 2 ^ C.rows → i < C.rows
+    → xors C.rows (λ j. bit j a * scaled C (2 ^ j) p i c) ≡ scaled C a p i c
+scaled_bits C K a i c p ha h =
+    let m = C.rows in
+    xors_ext m _ _ (λ j l.
+    ap (λ u. bit j a * u) (sym (selected_scaled C K (2 ^ j) i c p)) ∙ sym (selected_digit m p c (bit j a) (matrix_row m C.product (2 ^ j) i) (bit_lt j a)))
+    ∙ sym (selected_many m p c m (λ j. bit j a * matrix_row m C.product (2 ^ j) i))
+    ∙ ap (λ u. selected m u p c) (rows_add K a i ha h) ∙ selected_scaled C K a i c p
+
+-- the bits of a select of the multiples of x by the elements 2^j the product x · a
+pub selected_product : {m : ℕ} {prod : ℕ → ℕ → ℕ} {inv : ℕ → ℕ} (K : FieldLaws m prod inv) (x a : ℕ) (p : Packet) (c : ℕ) → x < 2 ^ m → a < 2 ^ m
+    → ((j : ℕ) → j < m → p j c ≡ prod x (2 ^ j)) → selected m a p c ≡ prod x a
+selected_product {m} {prod} K x a p c hx ha each =
+    xors_sum m _ ∙ sum_ext words m _ _ (λ j l. ap (λ u. bit j a * u) (each j l) ∙ sym (pick_times (bit j a) (prod x (2 ^ j)) (bit_lt j a)))
+    ∙ sym (prod_bits K x a hx ha)
+
+-- the bits of a select of the multiples of a packet, one after another in a run, its multiple by a
+pub multiples_selected : (C : Code) {inv : ℕ → ℕ} (K : FieldLaws C.rows C.product inv) (a : ℕ) (p : Packet) (run : List ℕ) → a < 2 ^ C.rows
+    → ((j : ℕ) → j < C.rows → SamePacket C (block_at C run j) (scaled C (2 ^ j) p))
+    → (i c : ℕ) → i < C.rows → c < C.words → selected C.rows a (packet_in (size_of C) run) (i * C.words + c) ≡ scaled C a p i c
+multiples_selected C K a p run ha each i c h l =
+    xors_ext C.rows _ _ (λ j k. ap (λ u. bit j a * u) (each j k i c h l)) ∙ scaled_bits C K a i c p ha h

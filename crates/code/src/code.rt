@@ -1,14 +1,15 @@
 //! The code of a shape over an arithmetic: it fills, checks and repairs blocks, and works on the sums of a block's packets.
-ghost use Rattle.std.specs.Prelude.{◌≡◌, ℕ, ◌*◌, ◌%◌, ◌^◌, ◌<◌, ◌≤◌, length, IfErr, IfOk, None, Some};
+ghost use Rattle.std.specs.Prelude.{◌≡◌, ℕ, ◌+◌, ◌*◌, ◌%◌, ◌^◌, ◌<◌, ◌≤◌, length, IfErr, IfOk, None, Some};
 ghost use Rattle.refusal.specs.Numbers.{refused_with};
-ghost use Rattle.algebra.specs.Code.{Packet};
-ghost use Rattle.layout.specs.Blocks.{Run, ZeroRun, packet_in, size_of};
+ghost use Rattle.algebra.specs.Code.{Packet, SamePacket, scaled};
+ghost use Rattle.layout.specs.Blocks.{Run, ZeroRun, block_at, packet_in, size_of};
+ghost use Rattle.layout.specs.Sizes.{packets_in};
 ghost use Rattle.layout.specs.Checks.{CheckedFirst, Cleared, width_refusal};
 
-use crate::matrix::Matrices;
-use crate::packet::{add_rows, add_rows_and_step};
+use crate::matrix::{Matrices, columns};
+use crate::packet::{add_each_row, add_rows, add_rows_and_step};
 use crate::solver::Solver;
-use crate::subsets::{fill, fill_rows};
+use crate::subsets::{Table, add_selected, fill, fill_rows};
 use field::Arithmetic;
 use field::power::raise;
 use layout::losses::LossList;
@@ -16,9 +17,6 @@ use layout::runs::clear;
 use layout::shape::{LONGEST, Shape};
 use refusal::Refusal;
 use std::ops::Range;
-
-// The words of a table of the sums of a packet's rows: 36 rows of up to 16 words.
-pub(crate) const TABLE: usize = 576;
 
 /// A shape whose rows are as many as the arithmetic is wide. Made once, it serves any number of blocks.
 #[derive(Drop)]
@@ -33,7 +31,7 @@ impl<F: Arithmetic> Code<F> {
     ghost use Rattle.code.specs.Subsets.{TableOf};
     ghost use Rattle.code.specs.Sums.{AbsorbedFrom, FirstNonzero, Gained};
     ghost use Rattle.code.specs.Lost.{Contradicts};
-    ghost use Rattle.code.specs.Held.{Filled};
+    ghost use Rattle.code.specs.Held.{Filled, Summed};
     ghost use Rattle.code.specs.Calls.{CodewordRun, ContradictoryRun, Encoded, Repaired, Says};
     ghost use Rattle.code.specs.Calls.{encode_refusal, check_refusal, repair_refusal};
     ghost use Rattle.code.specs.Rebuilt.{Rebuilt, Unmatched, absorb_refusal, rebuild_refusal};
@@ -61,31 +59,37 @@ impl<F: Arithmetic> Code<F> {
     }
 
     // Fills a table with the sums of the rows of a packet.
-    pub(crate) fn fill_table(&self, packet: &[u32], table: &mut [u32; TABLE])
+    pub(crate) fn fill_table(&self, packet: &[u32], table: &mut Table)
         requires packet { length packet.now ≡ size_of (code self.now) }
-        ensures { TableOf (code self.now) (packet_in (code self.now).words packet.now) table.new }
+        ensures { TableOf (code self.now) (packet_in (code self.now).words packet.now)
+            table.new.sums }
     {
-        fill_rows(self.shape.words(), F::width() as usize, packet, table);
+        fill_rows(
+            self.shape.words(),
+            F::width() as usize,
+            packet,
+            &mut table.sums,
+        );
     }
 
     // Adds `a` times the packet of a table to the packet `target`.
-    pub(crate) fn add_times(&self, a: u32, table: &[u32; TABLE], target: &mut [u32])
+    pub(crate) fn add_times(&self, a: u32, table: &Table, target: &mut [u32])
         requires element { a < 2 ^ F.Arithmetic.bits }
         requires target { length target.old ≡ size_of (code self.now) }
-        ensures { (p : Packet) → TableOf (code self.now) p table.now
+        ensures { (p : Packet) → TableOf (code self.now) p table.now.sums
             → AddedTimes (code self.now) a p target.old target.new }
     {
         let matrix = self.matrices.of(a);
         add_rows(
             self.shape.words(),
             F::width() as usize,
-            table,
+            &table.sums,
             &matrix,
             target,
         );
     }
 
-    // Adds a packet to the sums by way of a table of 36 rows of w words, where w is the width of the packet's rows.
+    // Adds a packet with locator `x`, of rows of w words, to the sums from `first` on, by way of a table: sum μ gains x^μ times it.
     #[inline(always)]
     fn add_powers(
         &self,
@@ -97,7 +101,7 @@ impl<F: Arithmetic> Code<F> {
         packet: &[u32],
     )
         requires width { w ≡ (code self.now).words }
-        requires table { length table.old ≡ 36 * w }
+        requires table { 36 * (code self.now).words ≤ length table.old }
         requires sums { Run (code self.now) (code self.now).parity sums.old }
         requires packet { length packet.now ≡ size_of (code self.now) }
         requires first { first ≤ (code self.now).parity }
@@ -123,8 +127,118 @@ impl<F: Arithmetic> Code<F> {
         }
     }
 
-    // Adds a packet with locator `x` to the sums from `first` on: sum μ gains x^μ times the packet.
-    pub(crate) fn add_packet(&self, sums: &mut [u32], first: usize, x: u32, packet: &[u32])
+    // Writes the multiples of a packet by the elements 2^j, one after another, from the table of its rows.
+    #[inline(always)]
+    fn fill_multiples(&self, w: usize, table: &[u32], multiples: &mut [u32])
+        requires width { w ≡ (code self.now).words }
+        requires table { 36 * (code self.now).words ≤ length table.now }
+        requires multiples { length multiples.old ≡ (code self.now).rows * size_of (code self.now) }
+        ensures { (q : Packet) → TableOf (code self.now) q table.now
+            → (j : ℕ) → j < (code self.now).rows
+            → SamePacket (code self.now) (block_at (code self.now) multiples.new j)
+            (scaled (code self.now) (2 ^ j) q) }
+    {
+        let m = F::width() as usize;
+        let p = m * w;
+        clear(multiples);
+        for j in 0..m {
+            let matrix = self.matrices.of(1 << j);
+            add_each_row(w, m, table, &matrix, &mut multiples[j * p..j * p + p]);
+        }
+    }
+
+    // The same for packets of up to 16 words, whose multiples by the elements 2^j are taken for the rows of a table: a number is then the
+    // element itself, and there is one for each sum, and not one for each row.
+    #[inline(always)]
+    fn add_multiples(
+        &self,
+        w: usize,
+        table: &mut [u32],
+        sums: &mut [u32],
+        first: usize,
+        x: u32,
+        packet: &[u32],
+    )
+        requires width { w ≡ (code self.now).words }
+        requires short { size_of (code self.now) ≤ 16 }
+        requires table { 576 ≤ length table.old }
+        requires sums { Run (code self.now) (code self.now).parity sums.old }
+        requires packet { length packet.now ≡ size_of (code self.now) }
+        requires first { first ≤ (code self.now).parity }
+        requires element { x < 2 ^ F.Arithmetic.bits }
+        ensures { AbsorbedFrom (code self.now) first x packet.now sums.old sums.new }
+    {
+        let m = F::width() as usize;
+        let p = m * w;
+        let mut multiples = [0; LONGEST];
+        fill(w, m, packet, table);
+        self.fill_multiples(w, table, &mut multiples[..m * p]);
+        fill(p, m, &multiples[..m * p], table);
+        // A product with x takes no longer way than one with a table's row: the multiples of x by the elements 2^j are added up.
+        let mut steps = [0; 36];
+        fill(1, m, &columns::<F>(x)[..m], &mut steps);
+        let mut a = raise::<F>(x, first as u32);
+        for sum in first..self.shape.parity() {
+            add_selected(p, m, table, a, &mut sums[sum * p..sum * p + p]);
+            let mut next = [0];
+            add_selected(1, m, &steps, a, &mut next);
+            a = next[0];
+        }
+    }
+
+    // The same for a width that the compiler knows.
+    #[inline(never)]
+    fn add_powers_of<const W: usize>(
+        &self,
+        table: &mut Table,
+        sums: &mut [u32],
+        first: usize,
+        x: u32,
+        packet: &[u32],
+    )
+        requires width { W ≡ (code self.now).words }
+        requires sums { Run (code self.now) (code self.now).parity sums.old }
+        requires packet { length packet.now ≡ size_of (code self.now) }
+        requires first { first ≤ (code self.now).parity }
+        requires element { x < 2 ^ F.Arithmetic.bits }
+        ensures { AbsorbedFrom (code self.now) first x packet.now sums.old sums.new }
+    {
+        // To make the multiples takes the time of some fifteen sums.
+        if F::width() as usize * W <= 16 && self.shape.parity() - first >= 16 {
+            self.add_multiples(W, &mut table.sums, sums, first, x, packet);
+        } else {
+            self.add_powers(W, &mut table.sums, sums, first, x, packet);
+        }
+    }
+
+    // The same for the others.
+    #[inline(never)]
+    fn add_powers_of_any(
+        &self,
+        table: &mut Table,
+        sums: &mut [u32],
+        first: usize,
+        x: u32,
+        packet: &[u32],
+    )
+        requires sums { Run (code self.now) (code self.now).parity sums.old }
+        requires packet { length packet.now ≡ size_of (code self.now) }
+        requires first { first ≤ (code self.now).parity }
+        requires element { x < 2 ^ F.Arithmetic.bits }
+        ensures { AbsorbedFrom (code self.now) first x packet.now sums.old sums.new }
+    {
+        self.add_powers(self.shape.words(), &mut table.sums, sums, first, x, packet);
+    }
+
+    // The same: the widths that are met most have loops of known length.
+    pub(crate) fn add_by_table(
+        &self,
+        table: &mut Table,
+        sums: &mut [u32],
+        first: usize,
+        x: u32,
+        packet: &[u32],
+    )
         requires sums { Run (code self.now) (code self.now).parity sums.old }
         requires packet { length packet.now ≡ size_of (code self.now) }
         requires first { first ≤ (code self.now).parity }
@@ -132,12 +246,43 @@ impl<F: Arithmetic> Code<F> {
         ensures { AbsorbedFrom (code self.now) first x packet.now sums.old sums.new }
     {
         match self.shape.words() {
-            1 => self.add_powers(1, &mut [0; 36], sums, first, x, packet),
-            2 => self.add_powers(2, &mut [0; 72], sums, first, x, packet),
-            4 => self.add_powers(4, &mut [0; 144], sums, first, x, packet),
-            8 => self.add_powers(8, &mut [0; 288], sums, first, x, packet),
-            16 => self.add_powers(16, &mut [0; TABLE], sums, first, x, packet),
-            w => self.add_powers(w, &mut [0; TABLE][..36 * w], sums, first, x, packet),
+            1 => self.add_powers_of::<1>(table, sums, first, x, packet),
+            2 => self.add_powers_of::<2>(table, sums, first, x, packet),
+            4 => self.add_powers_of::<4>(table, sums, first, x, packet),
+            8 => self.add_powers_of::<8>(table, sums, first, x, packet),
+            16 => self.add_powers_of::<16>(table, sums, first, x, packet),
+            _ => self.add_powers_of_any(table, sums, first, x, packet),
+        }
+    }
+
+    // The same, with a table of its own.
+    fn add_packet(&self, sums: &mut [u32], first: usize, x: u32, packet: &[u32])
+        requires sums { Run (code self.now) (code self.now).parity sums.old }
+        requires packet { length packet.now ≡ size_of (code self.now) }
+        requires first { first ≤ (code self.now).parity }
+        requires element { x < 2 ^ F.Arithmetic.bits }
+        ensures { AbsorbedFrom (code self.now) first x packet.now sums.old sums.new }
+    {
+        self.add_by_table(&mut Table::new(), sums, first, x, packet);
+    }
+
+    // Adds to the sums the packets of a run, at the positions from `start` on, that are not lost.
+    pub(crate) fn add_held(&self, sums: &mut [u32], run: &[u32], start: usize, losses: &LossList)
+        requires sums { Run (code self.now) (code self.now).parity sums.old }
+        requires run { Run (code self.now) (packets_in self.now.shape run.now) run.now }
+        requires end { start + packets_in self.now.shape run.now ≤ (code self.now).positions }
+        ensures { Summed (code self.now) losses.now start (packets_in self.now.shape run.now)
+            run.now sums.old sums.new }
+    {
+        let mut table = Table::new();
+        // A position is below 1,024, so `as` keeps it.
+        let mut x = raise::<F>(2, start as u32);
+        for (i, packet) in run.chunks(self.shape.packet()).enumerate() {
+            let locator = x;
+            x = F::product(2, x);
+            if !losses.contains(start + i) {
+                self.add_by_table(&mut table, sums, 0, locator, packet);
+            }
         }
     }
 

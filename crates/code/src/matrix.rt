@@ -9,7 +9,7 @@ use std::array;
 use std::marker::PhantomData;
 
 // The matrix of the product by `a`, by columns: column j is a · α^j. Ten columns, for the widest field: a board has no heap.
-fn columns<F: Arithmetic>(a: u32) -> [u32; 10]
+pub(crate) fn columns<F: Arithmetic>(a: u32) -> [u32; 10]
     ensures { Columns F.Arithmetic.bits F.Arithmetic.prod (a % 2 ^ F.Arithmetic.bits) result }
 {
     array::from_fn(|j| F::product(a, 1 << j))

@@ -8,7 +8,14 @@ use crate::subsets::add_selected;
 
 // Adds a matrix times a packet to the packet `target`.
 #[inline(always)]
-fn add_each_row(w: usize, m: usize, table: &[u32], matrix: &[u32; 10], target: &mut [u32])
+pub(crate) fn add_each_row(
+    w: usize,
+    m: usize,
+    table: &[u32],
+    matrix: &[u32; 10],
+    target: &mut [u32],
+)
+    requires width { w ≤ 16 }
     requires m { m ≤ 10 }
     requires table { 36 * w ≤ length table.now }
     requires matrix { (i : ℕ) → i < m → slice_index matrix.now i < 2 ^ m }
@@ -24,6 +31,7 @@ fn add_each_row(w: usize, m: usize, table: &[u32], matrix: &[u32; 10], target: &
 // The same. The widths that are met most are written out, for loops of known length.
 #[inline(always)]
 pub(crate) fn add_rows(w: usize, m: usize, table: &[u32], matrix: &[u32; 10], target: &mut [u32])
+    requires width { w ≤ 16 }
     requires m { m ≤ 10 }
     requires table { 36 * w ≤ length table.now }
     requires matrix { (i : ℕ) → i < m → slice_index matrix.now i < 2 ^ m }
@@ -41,7 +49,8 @@ pub(crate) fn add_rows(w: usize, m: usize, table: &[u32], matrix: &[u32; 10], ta
     }
 }
 
-// Adds a matrix times a packet to the packet `target`, and then multiplies the matrix by another, of which `rows` is the table: both steps pick by the same bits.
+// Adds a matrix times a packet to the packet `target`, and then multiplies the matrix by another, of which `rows` is the table: both
+// steps pick by the same bits.
 #[inline(always)]
 pub(crate) fn add_rows_and_step(
     w: usize,
@@ -51,6 +60,7 @@ pub(crate) fn add_rows_and_step(
     matrix: &mut [u32; 10],
     target: &mut [u32],
 )
+    requires width { w ≤ 16 }
     requires m { m ≤ 10 }
     requires table { 36 * w ≤ length table.now }
     requires matrix { (i : ℕ) → i < m → slice_index matrix.old i < 2 ^ m }

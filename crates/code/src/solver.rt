@@ -7,8 +7,8 @@ ghost use Rattle.layout.specs.Blocks.{Run, block_at, code_of};
 ghost use Rattle.layout.specs.Checks.{loss_refusal};
 ghost use Rattle.code.specs.Solving.{locator_at, Solvable};
 
-use crate::code::{Code, TABLE};
-use crate::subsets::add_words;
+use crate::code::Code;
+use crate::subsets::{Table, add_words};
 use field::Arithmetic;
 use field::power::raise;
 use layout::losses::LossList;
@@ -68,7 +68,7 @@ impl<'a, F: Arithmetic> Solver<'a, F> {
     }
 
     // Adds `a` times sum `from` to sum `to`, by way of the table.
-    fn add_entry(&self, sums: &mut [u32], table: &mut [u32; TABLE], a: u32, to: usize, from: usize)
+    fn add_entry(&self, sums: &mut [u32], table: &mut Table, a: u32, to: usize, from: usize)
         requires sums { SumsRun self.now sums.old }
         requires element { a < 2 ^ F.Arithmetic.bits }
         requires to { to < (code_in self.now).parity }
@@ -81,7 +81,7 @@ impl<'a, F: Arithmetic> Solver<'a, F> {
     }
 
     // The forward steps: stage j adds x_j times each sum to the next, from the last one down to sum j.
-    fn forward(&self, sums: &mut [u32], table: &mut [u32; TABLE])
+    fn forward(&self, sums: &mut [u32], table: &mut Table)
         requires sums { SumsRun self.now sums.old }
         ensures keeps { Forward self.now sums.old sums.new }
         ensures off { Behind self.now sums.old sums.new }
@@ -111,7 +111,7 @@ impl<'a, F: Arithmetic> Solver<'a, F> {
     }
 
     // One backward step: finds packet `n`, the last that is not found yet, and takes it out of the sums before it.
-    fn backward(&self, n: usize, sums: &mut [u32], table: &mut [u32; TABLE], scratch: &mut [u32])
+    fn backward(&self, n: usize, sums: &mut [u32], table: &mut Table, scratch: &mut [u32])
         requires sums { SumsRun self.now sums.old }
         requires scratch { Scratch self.now scratch.old }
         requires n { n < lost_count self.now }
@@ -138,7 +138,7 @@ impl<'a, F: Arithmetic> Solver<'a, F> {
         ensures solved { Solves self.now sums.old sums.new }
         ensures off { Behind self.now sums.old sums.new }
     {
-        let mut table = [0; TABLE];
+        let mut table = Table::new();
         self.forward(sums, &mut table);
         for n in (1..self.count()).rev() {
             self.backward(n, sums, &mut table, scratch);
@@ -151,11 +151,16 @@ impl<'a, F: Arithmetic> Solver<'a, F> {
         requires scratch { Scratch self.now scratch.old }
         ensures { AddsFound self.now sums.old sums.new }
     {
-        // By way of scratch: `add_packet` takes the whole run, in which the packets found lie too.
         let t = self.count();
+        if t == self.code.shape.parity() {
+            return;
+        }
+        // By way of scratch: `add_by_table` takes the whole run, in which the packets found lie too.
+        let mut table = Table::new();
         for s in 0..t {
             scratch.copy_from_slice(&sums[self.code.range(s)]);
-            self.code.add_packet(sums, t, self.locators[s], scratch);
+            self.code
+                .add_by_table(&mut table, sums, t, self.locators[s], scratch);
         }
     }
 
@@ -184,11 +189,7 @@ impl<'a, F: Arithmetic> Solver<'a, F> {
             ≤ (code_in self.now).positions }
         ensures { AddsHeld self.now start run.now sums.old sums.new }
     {
-        for (i, packet) in run.chunks(self.code.shape.packet()).enumerate() {
-            if !self.losses.contains(start + i) {
-                self.code.add_at(sums, start + i, packet);
-            }
-        }
+        self.code.add_held(sums, run, start, self.losses);
     }
 
     // Finds the lost packets of a block: they stand in the first places of the work run afterwards.

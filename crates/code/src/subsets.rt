@@ -8,8 +8,22 @@ ghost use Rattle.code.specs.Subsets.{RowTable, SubsetSums, selected};
 
 use layout::runs::clear;
 
-// The rows of a table: 16 sums of rows 0 to 3, 16 of rows 4 to 7, and 4 of rows 8 and 9.
-pub(crate) const SUMS: usize = 36;
+// Room for a table of rows of up to 16 words: 16 sums of rows 0 to 3, 16 of rows 4 to 7, and 4 of rows 8 and 9.
+#[derive(Drop)]
+pub(crate) struct Table {
+    // With it the sums lie at multiples of 16 bytes, as many as a processor reads at once.
+    align: u128,
+    pub(crate) sums: [u32; 576],
+}
+
+impl Table {
+    pub(crate) fn new() -> Table {
+        Table {
+            align: 0,
+            sums: [0; 576],
+        }
+    }
+}
 
 // Adds `source` to `target`, word by word.
 #[inline(always)]
@@ -19,19 +33,6 @@ pub(crate) fn add_words(target: &mut [u32], source: &[u32])
 {
     for (i, word) in source.iter().enumerate() {
         target[i] ^= *word;
-    }
-}
-
-// Adds two rows to `target`, word by word.
-#[inline(always)]
-fn add_two(target: &mut [u32], a: &[u32], b: &[u32])
-    requires a { length a.now ≡ length target.old }
-    requires b { length b.now ≡ length target.old }
-    ensures { (c : ℕ) → c < length target.old → slice_index target.new c
-        ≡ bit_xor (slice_index target.old c) (bit_xor (slice_index a.now c) (slice_index b.now c)) }
-{
-    for c in 0..target.len() {
-        target[c] ^= a[c] ^ b[c];
     }
 }
 
@@ -49,7 +50,28 @@ fn write_sum(target: &mut [u32], a: &[u32], b: &[u32])
     for c in 0..target.len() {
         sum[c] = a[c] ^ b[c];
     }
-    target.copy_from_slice(&sum[..target.len()]);
+    for k in 0..target.len() {
+        target[k] = sum[k];
+    }
+}
+
+// Adds two rows of up to 16 words to `target`.
+#[inline(always)]
+fn add_two(target: &mut [u32], a: &[u32], b: &[u32])
+    requires short { length target.old ≤ 16 }
+    requires a { length a.now ≡ length target.old }
+    requires b { length b.now ≡ length target.old }
+    ensures { (c : ℕ) → c < length target.old → slice_index target.new c
+        ≡ bit_xor (slice_index target.old c) (bit_xor (slice_index a.now c) (slice_index b.now c)) }
+{
+    // As in `write_sum`.
+    let mut sum = [0; 16];
+    for c in 0..target.len() {
+        sum[c] = target[c] ^ (a[c] ^ b[c]);
+    }
+    for k in 0..target.len() {
+        target[k] = sum[k];
+    }
 }
 
 // Doubles a table of the sums of rows: sum half + v is sum v and one row more.
@@ -124,6 +146,7 @@ pub(crate) fn fill_rows(w: usize, m: usize, rows: &[u32], table: &mut [u32])
 // Adds to a row those of m rows whose bits are set in a number, from the table of the rows.
 #[inline(always)]
 pub(crate) fn add_selected(w: usize, m: usize, table: &[u32], number: u32, target: &mut [u32])
+    requires width { w ≤ 16 }
     requires m { m ≤ 10 }
     requires table { 36 * w ≤ length table.now }
     requires number { number < 2 ^ m }

@@ -1,4 +1,4 @@
-use Rattle.std.proofs.Common.{◌+◌, ◌*◌, ◌/◌, ◌%◌, ◌^◌, ◌<◌, get_or, refl, ap, ap₂, ◌∙◌, add-one, mod-eq_of_lt, mod-lt, arith}
+use Rattle.std.proofs.Common.{◌*◌, ◌/◌, ◌%◌, ◌^◌, ◌<◌, get_or, refl, ap, ap₂, ◌∙◌, add-one, mod-eq_of_lt, arith}
 use lib.Bits.{bit_xor, and_mask}
 use lib.Pow.{pow-lt}
 use Rattle.galois.proofs.Linear.{digit_lt}

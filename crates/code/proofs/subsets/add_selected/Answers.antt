@@ -1,4 +1,4 @@
-use Rattle.std.proofs.Common.{◌≡◌, ◌+◌, ◌*◌, ◌/◌, ◌%◌, ◌^◌, ◌<◌, ◌≤◌, length, get_or, ap, ap₂, ◌∙◌, mul-le-mul_right, add-mul, arith}
+use Rattle.std.proofs.Common.{◌+◌, ◌*◌, ◌/◌, ◌%◌, ◌≤◌, length, get_or, ap, ap₂, ◌∙◌, mul-le-mul_right, add-mul, arith}
 use lib.Bits.{bit_xor, xor_assoc}
 use Rattle.std.proofs.lemmas.List.Edits.{get_or-between}
 use Rattle.layout.proofs.Parts.{part_length}

@@ -3,7 +3,6 @@ use native.Mathlib.Decide.{ℕ_discrete}
 use lib.Bits.{bit_xor}
 use Rattle.std.proofs.lemmas.List.{get_or-append-add}
 use Rattle.layout.proofs.Parts.{part_read, part_length, part_written, part_kept}
-use Rattle.layout.proofs.Places.{part_ends}
 use Rattle.code.proofs.subsets.extend.Goals as goal
 
 pub loop-v-preserved : goal.loop-v-preserved

@@ -1,8 +1,7 @@
 use Rattle.std.proofs.Common.{◌≡◌, ◌+◌, ◌*◌, ◌^◌, ◌<◌, take, get_or, refl, sym, ap, ◌∙◌, ap₂, get_or-take, mod-eq_of_lt, add-one, arith}
 use lib.Bits.{bit_xor}
-use Rattle.galois.specs.Field.{FieldLaws, power}
+use Rattle.galois.specs.Field.{power}
 use Rattle.galois.proofs.Powers.{power_lt}
-use Rattle.algebra.specs.Code.{scaled}
 use Rattle.layout.specs.Blocks.{code_of, packet_in, size_of}
 use Rattle.code.specs.Subsets.{RowTable, selected}
 use Rattle.code.specs.Matrices.{matrix_row}

@@ -1,4 +1,4 @@
-use Rattle.std.proofs.Common.{◌≡◌, ◌^◌, ◌<◌, get_or, sym, ap, ◌∙◌, arith}
+use Rattle.std.proofs.Common.{◌≡◌, get_or, sym, ap, ◌∙◌, arith}
 use lib.Bits.{bit_xor}
 use Rattle.layout.specs.Blocks.{packet_in, code_of}
 use Rattle.code.specs.Subsets.{selected}

@@ -3,7 +3,6 @@ use native.Mathlib.Decide.{ℕ_discrete}
 use lib.Pow.{pow-lt}
 use Rattle.std.proofs.lemmas.Nat.{one_shl}
 use Rattle.layout.proofs.Parts.{part_length, part_written, part_kept}
-use Rattle.layout.specs.Blocks.{packet_in}
 use Rattle.code.specs.Matrices.{matrix_row}
 use Rattle.code.specs.Subsets.{RowTable}
 use Rattle.code.proofs.Matrices.{table_same}

@@ -1,8 +1,7 @@
-use Rattle.std.proofs.Common.{refl, ap, ◌∙◌, ap₂, rules}
+use Rattle.std.proofs.Common.{refl, ◌∙◌, ap₂, rules}
 use lib.Bits.{bit_xor}
-use Rattle.algebra.specs.Code.{scaled}
 use Rattle.algebra.proofs.Words.{scaled_same}
-use Rattle.layout.specs.Blocks.{code_of, packet_in, block_at, size_of}
+use Rattle.layout.specs.Blocks.{code_of, block_at, size_of}
 use Rattle.layout.proofs.Places.{part_ends}
 use Rattle.code.proofs.Ranges.{range_read, range_written}
 use Rattle.code.proofs.solver.Solver.add_entry.Goals as goal

@@ -1,5 +1,4 @@
-use Rattle.std.proofs.Common.{◌≡◌, ℕ, ◌-◌, ◌^◌, ◌<◌, ◌≤◌, length, get_or}
-use Rattle.code.specs.Solving.{locator_at, gap_of}
+use Rattle.std.proofs.Common.{◌≡◌, ℕ, ◌<◌, ◌≤◌, length, get_or}
 use Rattle.code.specs.Values.{gap_in}
 use Rattle.code.proofs.solver.Solver.factors.Given as goal
 
