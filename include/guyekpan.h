@@ -30,9 +30,9 @@
 #include <stddef.h>
 #include <stdint.h>
 
-/* The bytes of stack that a call needs at most, 60 KB. This is measured on x86-64 and not proved: a repair of 8,192 words takes
-   53 KB, and some 2 KB more where the loader has yet to find the C library's memcpy. */
-#define GUYEKPAN_STACK 61440
+/* The bytes of stack that a call needs at most, 64 KB. This is measured on x86-64 and not proved: a repair of 8,192 words takes
+   58 KB, and some 2 KB more where the loader has yet to find the C library's memcpy. */
+#define GUYEKPAN_STACK 65536
 
 #ifdef __cplusplus
 extern "C" {
