@@ -1,14 +1,17 @@
 -- What adding packets to the sums keeps from turn to turn.
-use Rattle.std.proofs.Common.{◌≡◌, ℕ, ◌+◌, ◌*◌, ◌<◌, ◌≤◌, List, sym, refl, ap, ◌∙◌, ap₂, add-one, arith}
+use Rattle.std.proofs.Common.{◌≡◌, ℕ, ◌+◌, ◌*◌, ◌^◌, ◌<◌, ◌≤◌, List, sym, refl, ap, ◌∙◌, ap₂, add-one, one-mul, zero-mul, arith}
 use native.Mathlib.Decide.{ℕ_discrete}
 use lib.Bits.{bit_xor, xor_zero_r}
 use Rattle.galois.specs.Field.{FieldLaws, power}
-use Rattle.galois.proofs.Powers.{two_lt, power_mul}
-use Rattle.algebra.specs.Code.{Packet, Block, SamePacket, ZeroPacket, scaled, xors, Code}
-use Rattle.algebra.proofs.Words.{xors_none, scaled_same, scaled_zero}
+use Rattle.galois.proofs.Powers.{two_lt, power_lt, power_mul, power_alpha}
+use Rattle.algebra.specs.Code.{Packet, Block, SamePacket, ZeroPacket, scaled, xors, bit, Code}
+use Rattle.algebra.specs.Packets.{words}
+use Rattle.algebra.proofs.Sums.{sum_one}
+use Rattle.algebra.proofs.Bits.{bit_one, bit_other}
+use Rattle.algebra.proofs.Words.{xors_sum, xors_none, scaled_same, scaled_zero}
 use Rattle.layout.specs.Blocks.{packet_in, block_at, ZeroRun}
 use Rattle.code.specs.Sums.{Absorbed, ShareAdded, SumsTo}
-use Rattle.code.specs.Packets.{PacketWritten}
+use Rattle.code.specs.Packets.{PacketWritten, plus}
 
 module _ (C : Code) (first x : ℕ) (p : Packet) (e : List ℕ) where
   pub absorbed_none : Absorbed C first first x p e e
@@ -30,6 +33,22 @@ module _ (C : Code) (first x : ℕ) (p : Packet) (e : List ℕ) where
     below = λ μ h i c a b. w.off μ (λ q. omega arith) i c a b ∙ d.below μ h i c a b;
     above = λ μ h l i c a b. w.off μ (λ q. omega arith) i c a b ∙ d.above μ (omega arith) l i c a b;
   }
+
+-- the multiple of a packet by one is the packet
+scaled_one : (C : Code) {inv : ℕ → ℕ} → FieldLaws C.rows C.product inv → (p : Packet) (i c : ℕ) → i < C.rows → scaled C 1 p i c ≡ p i c
+unfolding scaled
+scaled_one C K p i c h =
+    let is : (j : ℕ) → j < C.rows → C.product 1 (power C.product 2 j) ≡ 2 ^ j = λ j l. K.one _ (power_lt K 2 j (two_lt K)) ∙ power_alpha K j l in
+    xors_sum C.rows _
+    ∙ sum_one words C.rows i _ h (λ j l q. ap (λ u. bit i u * p j c) (is j l) ∙ ap (λ u. u * p j c) (bit_other i j q) ∙ zero-mul (p j c))
+    ∙ ap (λ u. bit i u * p i c) (is i h) ∙ ap (λ u. u * p i c) (bit_one i) ∙ one-mul (p i c)
+
+-- sum 0 has gained a packet as it is
+pub absorbed_plain : (C : Code) {inv : ℕ → ℕ} → FieldLaws C.rows C.product inv → (x : ℕ) (p : Packet) (e y t : List ℕ) → 0 < C.parity → PacketWritten C 0 y e t
+    → SamePacket C (packet_in C.words y) (plus (block_at C e 0) p) → Absorbed C 0 1 x p e t
+unfolding power
+absorbed_plain C K x p e y t some w here =
+    absorbed_more C 0 x p e (omega arith) some w (λ i c h l. here i c h l ∙ ap (bit_xor (block_at C e 0 i c)) (sym (scaled_one C K p i c h))) (absorbed_none C 0 x p e)
 
 -- a packet with the locator of a position is that position's share
 pub share_added : (C : Code) {inv : ℕ → ℕ} → FieldLaws C.rows C.product inv → (x q : ℕ) (p : Packet) (e t : List ℕ) → x ≡ power C.product 2 q

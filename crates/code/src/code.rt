@@ -1,15 +1,16 @@
 //! The code of a shape over an arithmetic: it fills, checks and repairs blocks, and works on the sums of a block's packets.
 ghost use Rattle.std.specs.Prelude.{◌≡◌, ℕ, ◌+◌, ◌*◌, ◌%◌, ◌^◌, ◌<◌, ◌≤◌, length, IfErr, IfOk, None, Some};
 ghost use Rattle.refusal.specs.Numbers.{refused_with};
+ghost use Rattle.galois.specs.Field.{power};
 ghost use Rattle.algebra.specs.Code.{Packet, SamePacket, scaled};
 ghost use Rattle.layout.specs.Blocks.{Run, ZeroRun, block_at, packet_in, size_of};
 ghost use Rattle.layout.specs.Sizes.{packets_in};
 ghost use Rattle.layout.specs.Checks.{CheckedFirst, Cleared, width_refusal};
 
 use crate::matrix::{Matrices, columns};
-use crate::packet::{add_each_row, add_rows, add_rows_and_step};
+use crate::packet::{add_each_row, add_rows_and_step};
 use crate::solver::Solver;
-use crate::subsets::{Table, add_selected, fill, fill_rows};
+use crate::subsets::{Table, add_selected, add_words, fill};
 use field::Arithmetic;
 use field::power::raise;
 use layout::losses::LossList;
@@ -29,9 +30,9 @@ pub struct Code<F: Arithmetic> {
 impl<F: Arithmetic> Code<F> {
     ghost use Rattle.code.specs.Packets.{AddedTimes, PacketRange, PacketWritten};
     ghost use Rattle.code.specs.Subsets.{TableOf};
-    ghost use Rattle.code.specs.Sums.{AbsorbedFrom, FirstNonzero, Gained};
+    ghost use Rattle.code.specs.Sums.{Absorbed, AbsorbedFrom, FirstNonzero, Gained};
     ghost use Rattle.code.specs.Lost.{Contradicts};
-    ghost use Rattle.code.specs.Held.{Filled, Summed};
+    ghost use Rattle.code.specs.Held.{Filled, RunAdded};
     ghost use Rattle.code.specs.Calls.{CodewordRun, ContradictoryRun, Encoded, Repaired, Says};
     ghost use Rattle.code.specs.Calls.{encode_refusal, check_refusal, repair_refusal};
     ghost use Rattle.code.specs.Rebuilt.{Rebuilt, Unmatched, absorb_refusal, rebuild_refusal};
@@ -58,35 +59,59 @@ impl<F: Arithmetic> Code<F> {
         i * p..i * p + p
     }
 
-    // Fills a table with the sums of the rows of a packet.
-    pub(crate) fn fill_table(&self, packet: &[u32], table: &mut Table)
+    // The words of a row: W, where the compiler knows them, and those of the shape where W is 0.
+    #[inline(always)]
+    pub(crate) fn words<const W: usize>(&self) -> usize
+        requires known { 0 < W → W ≡ (code self.now).words }
+        ensures { result ≡ (code self.now).words }
+    {
+        if W > 0 { W } else { self.shape.words() }
+    }
+
+    // Fills a table with the sums of the rows of a packet, of w words each.
+    #[inline(always)]
+    pub(crate) fn fill_table(&self, w: usize, packet: &[u32], table: &mut Table)
+        requires width { w ≡ (code self.now).words }
         requires packet { length packet.now ≡ size_of (code self.now) }
         ensures { TableOf (code self.now) (packet_in (code self.now).words packet.now)
             table.new.sums }
     {
-        fill_rows(
-            self.shape.words(),
-            F::width() as usize,
-            packet,
-            &mut table.sums,
-        );
+        fill(w, F::width() as usize, packet, &mut table.sums);
     }
 
-    // Adds `a` times the packet of a table to the packet `target`.
-    pub(crate) fn add_times(&self, a: u32, table: &Table, target: &mut [u32])
+    // Adds `a` times the packet of a table to the packet `target`, of rows of w words.
+    #[inline(always)]
+    pub(crate) fn add_times(&self, w: usize, a: u32, table: &Table, target: &mut [u32])
+        requires width { w ≡ (code self.now).words }
         requires element { a < 2 ^ F.Arithmetic.bits }
         requires target { length target.old ≡ size_of (code self.now) }
         ensures { (p : Packet) → TableOf (code self.now) p table.now.sums
             → AddedTimes (code self.now) a p target.old target.new }
     {
         let matrix = self.matrices.of(a);
-        add_rows(
-            self.shape.words(),
-            F::width() as usize,
-            &table.sums,
-            &matrix,
-            target,
-        );
+        add_each_row(w, F::width() as usize, &table.sums, &matrix, target);
+    }
+
+    // Adds a packet with locator `x` to sum 0, which gains it as it is, if that is one of the sums from `first` on. Returns the number of the
+    // next sum, and that power of x.
+    #[inline(always)]
+    fn add_plain(&self, sums: &mut [u32], first: usize, x: u32, packet: &[u32]) -> (usize, u32)
+        requires sums { Run (code self.now) (code self.now).parity sums.old }
+        requires packet { length packet.now ≡ size_of (code self.now) }
+        requires first { first ≤ (code self.now).parity }
+        requires element { x < 2 ^ F.Arithmetic.bits }
+        ensures added { Absorbed (code self.now) first result.0 x
+            (packet_in (code self.now).words packet.now) sums.old sums.new }
+        ensures from { first ≤ result.0 }
+        ensures end { result.0 ≤ (code self.now).parity }
+        ensures power { result.1 ≡ power F.Arithmetic.prod x result.0 }
+    {
+        if first > 0 {
+            // There are no more than 32 sums, so `as` keeps the number.
+            return (first, raise::<F>(x, first as u32));
+        }
+        add_words(&mut sums[self.range(0)], packet);
+        (1, x)
     }
 
     // Adds a packet with locator `x`, of rows of w words, to the sums from `first` on, by way of a table: sum μ gains x^μ times it.
@@ -113,9 +138,9 @@ impl<F: Arithmetic> Code<F> {
         fill(w, m, packet, table);
         let mut rows = [0; 36];
         fill(1, m, &self.matrices.of(x)[..m], &mut rows);
-        // There are no more than 32 sums, so `as` keeps the number.
-        let mut matrix = self.matrices.of(raise::<F>(x, first as u32));
-        for sum in first..self.shape.parity() {
+        let (next, power) = self.add_plain(sums, first, x, packet);
+        let mut matrix = self.matrices.of(power);
+        for sum in next..self.shape.parity() {
             add_rows_and_step(
                 w,
                 m,
@@ -149,17 +174,16 @@ impl<F: Arithmetic> Code<F> {
 
     // The same for packets of up to 16 words, whose multiples by the elements 2^j are taken for the rows of a table: a number is then the
     // element itself, and there is one for each sum, and not one for each row.
-    #[inline(always)]
-    fn add_multiples(
+    #[inline(never)]
+    fn add_multiples<const W: usize>(
         &self,
-        w: usize,
         table: &mut [u32],
         sums: &mut [u32],
         first: usize,
         x: u32,
         packet: &[u32],
     )
-        requires width { w ≡ (code self.now).words }
+        requires known { 0 < W → W ≡ (code self.now).words }
         requires short { size_of (code self.now) ≤ 16 }
         requires table { 576 ≤ length table.old }
         requires sums { Run (code self.now) (code self.now).parity sums.old }
@@ -169,6 +193,7 @@ impl<F: Arithmetic> Code<F> {
         ensures { AbsorbedFrom (code self.now) first x packet.now sums.old sums.new }
     {
         let m = F::width() as usize;
+        let w = self.words::<W>();
         let p = m * w;
         let mut multiples = [0; LONGEST];
         fill(w, m, packet, table);
@@ -186,9 +211,9 @@ impl<F: Arithmetic> Code<F> {
         }
     }
 
-    // The same for a width that the compiler knows.
-    #[inline(never)]
-    fn add_powers_of<const W: usize>(
+    // The same, by whichever of the two ways is shorter.
+    #[inline(always)]
+    fn add_packet<const W: usize>(
         &self,
         table: &mut Table,
         sums: &mut [u32],
@@ -196,83 +221,39 @@ impl<F: Arithmetic> Code<F> {
         x: u32,
         packet: &[u32],
     )
-        requires width { W ≡ (code self.now).words }
+        requires known { 0 < W → W ≡ (code self.now).words }
         requires sums { Run (code self.now) (code self.now).parity sums.old }
         requires packet { length packet.now ≡ size_of (code self.now) }
         requires first { first ≤ (code self.now).parity }
         requires element { x < 2 ^ F.Arithmetic.bits }
         ensures { AbsorbedFrom (code self.now) first x packet.now sums.old sums.new }
     {
+        let w = self.words::<W>();
         // To make the multiples takes the time of some fifteen sums.
-        if F::width() as usize * W <= 16 && self.shape.parity() - first >= 16 {
-            self.add_multiples(W, &mut table.sums, sums, first, x, packet);
+        if F::width() as usize * w <= 16 && self.shape.parity() - first >= 16 {
+            self.add_multiples::<W>(&mut table.sums, sums, first, x, packet);
         } else {
-            self.add_powers(W, &mut table.sums, sums, first, x, packet);
+            self.add_powers(w, &mut table.sums, sums, first, x, packet);
         }
     }
 
-    // The same for the others.
+    // Adds to the sums from `first` on the packets of a run, at the positions from `start` on, that are not lost. W is as for `words`.
     #[inline(never)]
-    fn add_powers_of_any(
+    fn add_held<const W: usize>(
         &self,
-        table: &mut Table,
         sums: &mut [u32],
         first: usize,
-        x: u32,
-        packet: &[u32],
+        run: &[u32],
+        start: usize,
+        losses: &LossList,
     )
+        requires known { 0 < W → W ≡ (code self.now).words }
         requires sums { Run (code self.now) (code self.now).parity sums.old }
-        requires packet { length packet.now ≡ size_of (code self.now) }
         requires first { first ≤ (code self.now).parity }
-        requires element { x < 2 ^ F.Arithmetic.bits }
-        ensures { AbsorbedFrom (code self.now) first x packet.now sums.old sums.new }
-    {
-        self.add_powers(self.shape.words(), &mut table.sums, sums, first, x, packet);
-    }
-
-    // The same: the widths that are met most have loops of known length.
-    pub(crate) fn add_by_table(
-        &self,
-        table: &mut Table,
-        sums: &mut [u32],
-        first: usize,
-        x: u32,
-        packet: &[u32],
-    )
-        requires sums { Run (code self.now) (code self.now).parity sums.old }
-        requires packet { length packet.now ≡ size_of (code self.now) }
-        requires first { first ≤ (code self.now).parity }
-        requires element { x < 2 ^ F.Arithmetic.bits }
-        ensures { AbsorbedFrom (code self.now) first x packet.now sums.old sums.new }
-    {
-        match self.shape.words() {
-            1 => self.add_powers_of::<1>(table, sums, first, x, packet),
-            2 => self.add_powers_of::<2>(table, sums, first, x, packet),
-            4 => self.add_powers_of::<4>(table, sums, first, x, packet),
-            8 => self.add_powers_of::<8>(table, sums, first, x, packet),
-            16 => self.add_powers_of::<16>(table, sums, first, x, packet),
-            _ => self.add_powers_of_any(table, sums, first, x, packet),
-        }
-    }
-
-    // The same, with a table of its own.
-    fn add_packet(&self, sums: &mut [u32], first: usize, x: u32, packet: &[u32])
-        requires sums { Run (code self.now) (code self.now).parity sums.old }
-        requires packet { length packet.now ≡ size_of (code self.now) }
-        requires first { first ≤ (code self.now).parity }
-        requires element { x < 2 ^ F.Arithmetic.bits }
-        ensures { AbsorbedFrom (code self.now) first x packet.now sums.old sums.new }
-    {
-        self.add_by_table(&mut Table::new(), sums, first, x, packet);
-    }
-
-    // Adds to the sums the packets of a run, at the positions from `start` on, that are not lost.
-    pub(crate) fn add_held(&self, sums: &mut [u32], run: &[u32], start: usize, losses: &LossList)
-        requires sums { Run (code self.now) (code self.now).parity sums.old }
         requires run { Run (code self.now) (packets_in self.now.shape run.now) run.now }
         requires end { start + packets_in self.now.shape run.now ≤ (code self.now).positions }
-        ensures { Summed (code self.now) losses.now start (packets_in self.now.shape run.now)
-            run.now sums.old sums.new }
+        ensures { RunAdded (code self.now) losses.now first start
+            (packets_in self.now.shape run.now) run.now sums.old sums.new }
     {
         let mut table = Table::new();
         // A position is below 1,024, so `as` keeps it.
@@ -281,21 +262,47 @@ impl<F: Arithmetic> Code<F> {
             let locator = x;
             x = F::product(2, x);
             if !losses.contains(start + i) {
-                self.add_by_table(&mut table, sums, 0, locator, packet);
+                self.add_packet::<W>(&mut table, sums, first, locator, packet);
             }
         }
     }
 
-    // Adds the packet at a position of a block to the block's sums.
-    pub(crate) fn add_at(&self, sums: &mut [u32], position: usize, packet: &[u32])
+    // The same: the widths that are met most have loops of known length.
+    pub(crate) fn add_run(
+        &self,
+        sums: &mut [u32],
+        first: usize,
+        run: &[u32],
+        start: usize,
+        losses: &LossList,
+    )
         requires sums { Run (code self.now) (code self.now).parity sums.old }
+        requires first { first ≤ (code self.now).parity }
+        requires run { Run (code self.now) (packets_in self.now.shape run.now) run.now }
+        requires end { start + packets_in self.now.shape run.now ≤ (code self.now).positions }
+        ensures { RunAdded (code self.now) losses.now first start
+            (packets_in self.now.shape run.now) run.now sums.old sums.new }
+    {
+        match self.shape.words() {
+            1 => self.add_held::<1>(sums, first, run, start, losses),
+            2 => self.add_held::<2>(sums, first, run, start, losses),
+            4 => self.add_held::<4>(sums, first, run, start, losses),
+            8 => self.add_held::<8>(sums, first, run, start, losses),
+            16 => self.add_held::<16>(sums, first, run, start, losses),
+            _ => self.add_held::<0>(sums, first, run, start, losses),
+        }
+    }
+
+    // Adds the packet at a position of a block to the block's sums from `first` on.
+    pub(crate) fn add_at(&self, sums: &mut [u32], first: usize, position: usize, packet: &[u32])
+        requires sums { Run (code self.now) (code self.now).parity sums.old }
+        requires first { first ≤ (code self.now).parity }
         requires position { position < (code self.now).positions }
         requires packet { length packet.now ≡ size_of (code self.now) }
-        ensures { Gained (code self.now) position packet.now sums.old sums.new }
+        ensures { AbsorbedFrom (code self.now) first (power F.Arithmetic.prod 2 position)
+            packet.now sums.old sums.new }
     {
-        // A position is below 1,024, so `as` keeps it.
-        let x = raise::<F>(2, position as u32);
-        self.add_packet(sums, 0, x, packet);
+        self.add_run(sums, first, packet, position, &LossList::none());
     }
 
     // The first word that is not zero in the sums from `first` on: the sum, and the word in it.
@@ -422,7 +429,7 @@ impl<F: Arithmetic> Code<F> {
         if position >= shape.positions() {
             return Err(Refusal::OutsideShape);
         }
-        self.add_at(sums, position, packet);
+        self.add_at(sums, 0, position, packet);
         Ok(())
     }
 

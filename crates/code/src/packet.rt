@@ -28,27 +28,6 @@ pub(crate) fn add_each_row(
     }
 }
 
-// The same. The widths that are met most are written out, for loops of known length.
-#[inline(always)]
-pub(crate) fn add_rows(w: usize, m: usize, table: &[u32], matrix: &[u32; 10], target: &mut [u32])
-    requires width { w ≤ 16 }
-    requires m { m ≤ 10 }
-    requires table { 36 * w ≤ length table.now }
-    requires matrix { (i : ℕ) → i < m → slice_index matrix.now i < 2 ^ m }
-    requires target { length target.old ≡ m * w }
-    ensures { (p : Packet) → RowTable m w p table.now
-        → AddedRows m w matrix.now p target.old target.new }
-{
-    match w {
-        1 => add_each_row(1, m, table, matrix, target),
-        2 => add_each_row(2, m, table, matrix, target),
-        4 => add_each_row(4, m, table, matrix, target),
-        8 => add_each_row(8, m, table, matrix, target),
-        16 => add_each_row(16, m, table, matrix, target),
-        w => add_each_row(w, m, table, matrix, target),
-    }
-}
-
 // Adds a matrix times a packet to the packet `target`, and then multiplies the matrix by another, of which `rows` is the table: both
 // steps pick by the same bits.
 #[inline(always)]

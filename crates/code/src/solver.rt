@@ -68,20 +68,32 @@ impl<'a, F: Arithmetic> Solver<'a, F> {
     }
 
     // Adds `a` times sum `from` to sum `to`, by way of the table.
-    fn add_entry(&self, sums: &mut [u32], table: &mut Table, a: u32, to: usize, from: usize)
+    #[inline(always)]
+    fn add_entry(
+        &self,
+        w: usize,
+        sums: &mut [u32],
+        table: &mut Table,
+        a: u32,
+        to: usize,
+        from: usize,
+    )
+        requires width { w ≡ (code_in self.now).words }
         requires sums { SumsRun self.now sums.old }
         requires element { a < 2 ^ F.Arithmetic.bits }
         requires to { to < (code_in self.now).parity }
         requires from { from < (code_in self.now).parity }
         ensures { Stepped (code_in self.now) a to from sums.old sums.new }
     {
-        self.code.fill_table(&sums[self.code.range(from)], table);
+        self.code.fill_table(w, &sums[self.code.range(from)], table);
         self.code
-            .add_times(a, table, &mut sums[self.code.range(to)]);
+            .add_times(w, a, table, &mut sums[self.code.range(to)]);
     }
 
     // The forward steps: stage j adds x_j times each sum to the next, from the last one down to sum j.
-    fn forward(&self, sums: &mut [u32], table: &mut Table)
+    #[inline(always)]
+    fn forward(&self, w: usize, sums: &mut [u32], table: &mut Table)
+        requires width { w ≡ (code_in self.now).words }
         requires sums { SumsRun self.now sums.old }
         ensures keeps { Forward self.now sums.old sums.new }
         ensures off { Behind self.now sums.old sums.new }
@@ -90,7 +102,7 @@ impl<'a, F: Arithmetic> Solver<'a, F> {
         let t = self.count();
         for j in 1..t {
             for i in (j..t).rev() {
-                self.add_entry(sums, table, self.locators[j - 1], i, i - 1);
+                self.add_entry(w, sums, table, self.locators[j - 1], i, i - 1);
             }
         }
     }
@@ -111,7 +123,9 @@ impl<'a, F: Arithmetic> Solver<'a, F> {
     }
 
     // One backward step: finds packet `n`, the last that is not found yet, and takes it out of the sums before it.
-    fn backward(&self, n: usize, sums: &mut [u32], table: &mut Table, scratch: &mut [u32])
+    #[inline(always)]
+    fn backward(&self, w: usize, n: usize, sums: &mut [u32], table: &mut Table, scratch: &mut [u32])
+        requires width { w ≡ (code_in self.now).words }
         requires sums { SumsRun self.now sums.old }
         requires scratch { Scratch self.now scratch.old }
         requires n { n < lost_count self.now }
@@ -119,29 +133,49 @@ impl<'a, F: Arithmetic> Solver<'a, F> {
         ensures keeps { Backward self.now n sums.old sums.new }
         ensures off { Behind self.now sums.old sums.new }
     {
-        self.code.fill_table(&sums[self.code.range(n)], table);
+        self.code.fill_table(w, &sums[self.code.range(n)], table);
         // In place of sum n stands sum 0 as it is now: with what sum 0 becomes added to it, it is packet n.
         sums.copy_within(self.code.range(0), self.code.range(n).start);
         let factors = self.factors(n);
         for j in 0..n {
             self.code
-                .add_times(factors[j], table, &mut sums[self.code.range(j)]);
+                .add_times(w, factors[j], table, &mut sums[self.code.range(j)]);
         }
         scratch.copy_from_slice(&sums[self.code.range(0)]);
         add_words(&mut sums[self.code.range(n)], scratch);
     }
 
-    // Turns the first sums, as many as are lost, into the lost packets.
+    // Turns the first sums, as many as are lost, into the lost packets. W is as for `Code::words`.
+    #[inline(never)]
+    fn solve_of<const W: usize>(&self, sums: &mut [u32], scratch: &mut [u32])
+        requires known { 0 < W → W ≡ (code_in self.now).words }
+        requires sums { SumsRun self.now sums.old }
+        requires scratch { Scratch self.now scratch.old }
+        ensures solved { Solves self.now sums.old sums.new }
+        ensures off { Behind self.now sums.old sums.new }
+    {
+        let w = self.code.words::<W>();
+        let mut table = Table::new();
+        self.forward(w, sums, &mut table);
+        for n in (1..self.count()).rev() {
+            self.backward(w, n, sums, &mut table, scratch);
+        }
+    }
+
+    // The same: the widths that are met most have loops of known length.
     fn solve(&self, sums: &mut [u32], scratch: &mut [u32])
         requires sums { SumsRun self.now sums.old }
         requires scratch { Scratch self.now scratch.old }
         ensures solved { Solves self.now sums.old sums.new }
         ensures off { Behind self.now sums.old sums.new }
     {
-        let mut table = Table::new();
-        self.forward(sums, &mut table);
-        for n in (1..self.count()).rev() {
-            self.backward(n, sums, &mut table, scratch);
+        match self.code.shape.words() {
+            1 => self.solve_of::<1>(sums, scratch),
+            2 => self.solve_of::<2>(sums, scratch),
+            4 => self.solve_of::<4>(sums, scratch),
+            8 => self.solve_of::<8>(sums, scratch),
+            16 => self.solve_of::<16>(sums, scratch),
+            _ => self.solve_of::<0>(sums, scratch),
         }
     }
 
@@ -155,12 +189,10 @@ impl<'a, F: Arithmetic> Solver<'a, F> {
         if t == self.code.shape.parity() {
             return;
         }
-        // By way of scratch: `add_by_table` takes the whole run, in which the packets found lie too.
-        let mut table = Table::new();
-        for s in 0..t {
+        // By way of scratch: `add_at` takes all sums, among which the packets found lie too.
+        for (s, at) in self.losses.positions().iter().enumerate() {
             scratch.copy_from_slice(&sums[self.code.range(s)]);
-            self.code
-                .add_by_table(&mut table, sums, t, self.locators[s], scratch);
+            self.code.add_at(sums, t, *at, scratch);
         }
     }
 
@@ -189,7 +221,7 @@ impl<'a, F: Arithmetic> Solver<'a, F> {
             ≤ (code_in self.now).positions }
         ensures { AddsHeld self.now start run.now sums.old sums.new }
     {
-        self.code.add_held(sums, run, start, self.losses);
+        self.code.add_run(sums, 0, run, start, self.losses);
     }
 
     // Finds the lost packets of a block: they stand in the first places of the work run afterwards.

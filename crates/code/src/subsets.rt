@@ -124,25 +124,6 @@ pub(crate) fn fill(w: usize, m: usize, rows: &[u32], table: &mut [u32])
     fill_group(w, &rows[eight * w..], m - eight, high);
 }
 
-// The same. The widths that are met most are written out, for loops of known length.
-#[inline(always)]
-pub(crate) fn fill_rows(w: usize, m: usize, rows: &[u32], table: &mut [u32])
-    requires width { (1 ≤ w) × (w ≤ 16) }
-    requires m { m ≤ 10 }
-    requires rows { length rows.now ≡ m * w }
-    requires table { 36 * w ≤ length table.old }
-    ensures { RowTable m w (packet_in w rows.now) table.new }
-{
-    match w {
-        1 => fill(1, m, rows, table),
-        2 => fill(2, m, rows, table),
-        4 => fill(4, m, rows, table),
-        8 => fill(8, m, rows, table),
-        16 => fill(16, m, rows, table),
-        w => fill(w, m, rows, table),
-    }
-}
-
 // Adds to a row those of m rows whose bits are set in a number, from the table of the rows.
 #[inline(always)]
 pub(crate) fn add_selected(w: usize, m: usize, table: &[u32], number: u32, target: &mut [u32])

@@ -5,9 +5,8 @@ use Rattle.layout.specs.Sizes.{packet_of}
 use Rattle.layout.specs.Blocks.{packet_in, code_of}
 use Rattle.layout.proofs.Entries.{entry_read}
 use Rattle.layout.proofs.Blocks.{packet_pos}
-use Rattle.code.proofs.Absorbs.{share_added}
 use Rattle.code.proofs.Chunks.{chunk_turn, chunks_done}
-use Rattle.code.proofs.Held.{summed_none, summed_lost, summed_held}
+use Rattle.code.proofs.Held.{run_none, run_lost, run_held}
 use Rattle.code.proofs.Stages.{laws_of}
 use Rattle.code.proofs.code.Code.add_held.Goals as goal
 
@@ -17,7 +16,7 @@ loop-i-init g c =
     let zero : c.into_iter-i-iterator.result.count ≡ 0 = search rules in
     record {
       turn = search rules;
-      summed = rw zero (summed_none _ _ _ _ _);
+      added = rw zero (run_none _ _ _ _ _ _);
       locator = rw (zero, add-zero c.args.start) (c.raise-x.ensures ∙ ap (λ a. power f.prod a c.args.start) (mod-eq_of_lt (two_lt g.met.F.Arithmetic.field)));
     }
 
@@ -38,19 +37,19 @@ loop-i-preserved g c =
     let turn = chunk_turn (packet_pos s) c.requires.run v.turn _ _ step in
     rw counted record {
       turn = turn.next;
-      summed = summed_lost (code_of s g.F.Arithmetic.prod) c.args.losses.now c.args.start _ c.args.run.now c.args.sums.now c.loop-i.sums v.summed
+      added = run_lost (code_of s g.F.Arithmetic.prod) c.args.losses.now c.args.first c.args.start c.args.run.now c.args.sums.now _ c.loop-i.sums v.added
           (rw (sym number) (sym c.contains.ensures ∙ c.if-not-contains.false));
       locator = next_locator g.met.F.Arithmetic.field c.args.start _ _ _ v.locator c.product-x.ensures;
     }
 
-pub add_by_table-requires-clause-packet : goal.add_by_table-requires-clause-packet
-add_by_table-requires-clause-packet g c =
+pub add_packet-requires-clause-packet : goal.add_packet-requires-clause-packet
+add_packet-requires-clause-packet g c =
     let v = c.loop-i.invariant in
     let (step, number, _, _) = c.in-Some.ensures.steps in
     (chunk_turn (packet_pos c.args.self.now.shape) c.requires.run v.turn _ _ step).long
 
-pub add_by_table-requires-clause-element : goal.add_by_table-requires-clause-element
-add_by_table-requires-clause-element g c =
+pub add_packet-requires-clause-element : goal.add_packet-requires-clause-element
+add_packet-requires-clause-element g c =
     let laws = g.met.F.Arithmetic.field in
     rw c.loop-i.invariant.locator (power_lt laws 2 _ (two_lt laws))
 
@@ -68,10 +67,10 @@ loop-i-preserved-then-not-contains g c =
     let turn = chunk_turn (packet_pos s) c.requires.run v.turn _ _ step in
     rw counted record {
       turn = turn.next;
-      summed = summed_held C c.args.losses.now c.args.start n run c.args.sums.now c.loop-i.sums v.summed p c.add_by_table.new.sums
+      added = run_held C c.args.losses.now c.args.first c.args.start run c.args.sums.now n c.loop-i.sums v.added laws p c.loop-i.x c.add_packet.new.sums v.locator
           (rw (sym number) (sym c.contains.ensures ∙ c.if-not-contains.true))
           (λ i k h m. ap (λ z. packet_in s.words z i k) turn.is ∙ entry_read C n (packet_of s) run refl i k h m)
-          (share_added C laws _ (c.args.start + n) p c.loop-i.sums c.add_by_table.new.sums v.locator c.add_by_table.ensures);
+          c.add_packet.ensures;
       locator = next_locator g.met.F.Arithmetic.field c.args.start _ _ _ v.locator c.product-x.ensures;
     }
 
@@ -79,4 +78,4 @@ pub returns : goal.returns
 returns g c =
     let v = c.loop-i.invariant in
     let (step, _) = c.in-None.ensures.steps in
-    rw (chunks_done (packet_pos c.args.self.now.shape) c.requires.run v.turn step.1.0) at v.summed
+    rw (chunks_done (packet_pos c.args.self.now.shape) c.requires.run v.turn step.1.0) at v.added

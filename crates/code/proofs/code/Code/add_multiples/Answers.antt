@@ -1,4 +1,4 @@
-use Rattle.std.proofs.Common.{◌≡◌, ℕ, ◌+◌, ◌*◌, ◌^◌, ◌<◌, ◌++◌, ◌≤◌, List, get_or, take, length, min, sym, refl, ap, ◌∙◌, ap₂, mod-eq_of_lt, add-one, mul-le-mul_right, add-mul, get_or-take, length-take, arith}
+use Rattle.std.proofs.Common.{◌≡◌, ℕ, ◌+◌, ◌*◌, ◌^◌, ◌<◌, ◌++◌, ◌≤◌, get_or, take, length, min, sym, refl, ap, ◌∙◌, ap₂, mod-eq_of_lt, add-one, mul-le-mul_right, add-mul, get_or-take, length-take, arith}
 use lib.Bits.{bit_xor, xor_zero_l}
 use Rattle.std.proofs.lemmas.List.{get_or_append_left}
 use Rattle.galois.specs.Field.{power}
@@ -41,9 +41,9 @@ loop-sum-preserved g c =
     let lt : a < 2 ^ f.bits = rw is (power_lt K x n c.requires.element) in
     let rows : s.rows ≡ f.bits = c.args.self.now.width in
     let m = c.width-m.ensures ∙ sym rows in
-    let w = c.requires.width in
+    let w = c.words-w.ensures in
     let within : n < C.parity = let e = c.parity-sum-end.ensures in let h = c.loop-sum-test.true in omega arith in
-    let part : PacketRange C n (n * (c.width-m.result * c.args.w)) (n * (c.width-m.result * c.args.w) + c.width-m.result * c.args.w) =
+    let part : PacketRange C n (n * (c.width-m.result * c.words-w.result)) (n * (c.width-m.result * c.words-w.result) + c.width-m.result * c.words-w.result) =
     record { start = ap (λ k. n * k) (ap₂ ◌*◌ m w); end = ap (λ k. n * k + k) (ap₂ ◌*◌ m w) } in
     let written = range_written part t (c.loop-sum.auto.sums ∙ c.requires.sums) within c.add_selected.new.target c.add_selected.auto.target in
     let p = packet_in s.words c.args.packet.now in

@@ -1,4 +1,4 @@
-use Rattle.std.proofs.Common.{◌≡◌, ◌+◌, ◌*◌, ◌^◌, ◌<◌, take, get_or, refl, sym, ap, ◌∙◌, ap₂, get_or-take, mod-eq_of_lt, add-one, arith}
+use Rattle.std.proofs.Common.{◌≡◌, ◌+◌, ◌*◌, ◌^◌, ◌<◌, take, get_or, refl, sym, ap, ◌∙◌, ap₂, get_or-take, add-one, arith}
 use lib.Bits.{bit_xor}
 use Rattle.galois.specs.Field.{power}
 use Rattle.galois.proofs.Powers.{power_lt}
@@ -6,23 +6,22 @@ use Rattle.layout.specs.Blocks.{code_of, packet_in, size_of}
 use Rattle.code.specs.Subsets.{RowTable, selected}
 use Rattle.code.specs.Matrices.{matrix_row}
 use Rattle.code.specs.Packets.{AddedRows, PacketRange}
-use Rattle.code.proofs.Absorbs.{absorbed_none, absorbed_more}
+use Rattle.code.proofs.Absorbs.{absorbed_more}
 use Rattle.code.proofs.Ranges.{range_read, range_written}
 use Rattle.code.proofs.Stages.{laws_of}
 use Rattle.code.proofs.Matrices.{row_lt, rows_times, selected_scaled, table_same}
 use Rattle.code.proofs.code.Code.add_powers.Goals as goal
 
 pub of-matrix-requires : goal.of-matrix-requires
-of-matrix-requires g c =
-    rw (c.raise.ensures, mod-eq_of_lt c.requires.element) (power_lt g.met.F.Arithmetic.field c.args.x c.args.first c.requires.element)
+of-matrix-requires g c = rw c.add_plain-next.ensures.power (power_lt g.met.F.Arithmetic.field c.args.x c.add_plain-next.result.0 c.requires.element)
 
 pub loop-sum-init : goal.loop-sum-init
 loop-sum-init g c =
     let f = g.F.Arithmetic in
-    let is = c.raise.ensures ∙ ap (λ y. power f.prod y c.args.first) (mod-eq_of_lt c.requires.element) in
     record {
-      matrix = λ i h. c.of-matrix.ensures i h ∙ ap (λ a. matrix_row f.bits f.prod a i) is;
-      absorbed = absorbed_none _ _ _ _ _;
+      matrix = λ i h. c.of-matrix.ensures i h ∙ ap (λ a. matrix_row f.bits f.prod a i) c.add_plain-next.ensures.power;
+      from = c.add_plain-next.ensures.from;
+      absorbed = λ e d. d;
     }
 
 pub add_rows_and_step-requires-clause-matrix : goal.add_rows_and_step-requires-clause-matrix
@@ -49,7 +48,7 @@ loop-sum-preserved g c =
     let within : n < C.parity = let e = c.parity-sum-end.ensures in let h = c.loop-sum-test.true in omega arith in
     let part : PacketRange C n (n * (c.width-m.result * c.args.w)) (n * (c.width-m.result * c.args.w) + c.width-m.result * c.args.w) =
     record { start = ap (λ k. n * k) (ap₂ ◌*◌ m w); end = ap (λ k. n * k + k) (ap₂ ◌*◌ m w) } in
-    let written = range_written part t (c.loop-sum.auto.sums ∙ c.requires.sums) within c.add_rows_and_step.new.target c.add_rows_and_step.auto.target in
+    let written = range_written part t (c.loop-sum.auto.sums ∙ c.add_plain-next.auto.sums ∙ c.requires.sums) within c.add_rows_and_step.new.target c.add_rows_and_step.auto.target in
     let p = packet_in s.words c.args.packet.now in
     let table : RowTable C.rows C.words p c.fill.new.table = rw (m, w) at c.fill.ensures in
     let added : AddedRows C.rows C.words c.loop-sum.matrix p _ c.add_rows_and_step.new.target = (rw (m, w) at c.add_rows_and_step.ensures.added) p table in
@@ -61,10 +60,17 @@ loop-sum-preserved g c =
           ap (λ u. get_or (take f.bits c.of.result) u 0) place ∙ get_or-take f.bits c.of.result j 0 l ∙ c.of.ensures j l) step) i h
           ∙ ap (λ u. selected f.bits u (λ j k. matrix_row f.bits f.prod x j) 0) (c.loop-sum.invariant.matrix i h)
           ∙ rows_times K a x i 0 a-lt c.requires.element h ∙ ap (λ y. matrix_row f.bits f.prod y i) (K.comm a x a-lt c.requires.element ∙ ap (power f.prod x) (sym (add-one n)));
-      absorbed = absorbed_more C c.args.first x p _ c.loop-sum.auto.sum within written
+      from = let h = c.loop-sum.invariant.from in omega arith;
+      absorbed = λ e d. absorbed_more C c.args.first x p _ c.loop-sum.invariant.from within written
           (λ i k h l. added i k h l
           ∙ ap₂ bit_xor (range_read {C = C} {a = n * size_of C} {b = n * size_of C + size_of C} (record { start = refl; end = refl }) t i k h l)
           (ap (λ u. selected C.rows u p k) (rw rows (c.loop-sum.invariant.matrix i (omega arith)))
           ∙ selected_scaled C (laws_of s.rows f.bits f.prod f.inv rows K) a i k p))
-          c.loop-sum.invariant.absorbed;
+          (c.loop-sum.invariant.absorbed e d);
     }
+
+pub returns : goal.returns
+returns g c =
+    let all : c.loop-sum.sum ≡ (code_of c.args.self.now.shape g.F.Arithmetic.prod).parity =
+    let e = c.parity-sum-end.ensures in let h = c.loop-sum-test.false in let k = c.add_plain-next.ensures.end in let l = c.loop-sum.auto.sum in omega arith in
+    rw all at (c.loop-sum.invariant.absorbed c.args.sums.now c.add_plain-next.ensures.added)

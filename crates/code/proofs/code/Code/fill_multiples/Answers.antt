@@ -1,10 +1,9 @@
-use Rattle.std.proofs.Common.{◌≡◌, ◌+◌, ◌*◌, ◌%◌, ◌^◌, ◌<◌, get_or, refl, sym, ap, ◌∙◌, ap₂, arith}
+use Rattle.std.proofs.Common.{◌≡◌, ◌+◌, ◌*◌, ◌%◌, ◌^◌, ◌<◌, refl, sym, ap, ◌∙◌, ap₂, arith}
 use native.Mathlib.Decide.{ℕ_discrete}
 use lib.Bits.{bit_xor, xor_zero_l}
 use lib.Pow.{pow-lt}
 use Rattle.std.proofs.lemmas.Nat.{one_shl}
-use Rattle.algebra.specs.Code.{scaled}
-use Rattle.layout.specs.Blocks.{code_of, packet_in, block_at, size_of}
+use Rattle.layout.specs.Blocks.{code_of, size_of}
 use Rattle.code.specs.Subsets.{selected}
 use Rattle.code.specs.Matrices.{matrix_row}
 use Rattle.code.specs.Packets.{AddedRows, PacketRange}

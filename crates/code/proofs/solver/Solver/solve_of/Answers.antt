@@ -2,7 +2,7 @@ use Rattle.std.proofs.Common.{◌-◌, ◌∙◌, arith}
 use mathlib.Core.Logic.Iff
 use native.Mathlib.Decide.{dec_lt}
 use Rattle.code.proofs.Backs.{found_starts, found_ends}
-use Rattle.code.proofs.solver.Solver.solve.Goals as goal
+use Rattle.code.proofs.solver.Solver.solve_of.Goals as goal
 
 pub loop-n-preserved : goal.loop-n-preserved
 loop-n-preserved g c = (

@@ -1,7 +1,7 @@
 use Rattle.std.proofs.Common.{◌-◌}
 use Rattle.code.specs.Solving.{Untouched, SameSolutions, found_of}
 use Rattle.code.specs.Values.{code_in}
-use Rattle.code.proofs.solver.Solver.solve.Given as goal
+use Rattle.code.proofs.solver.Solver.solve_of.Given as goal
 
 abbrev pub invariant-loop-n : goal.invariant-loop-n
 invariant-loop-n g l =
