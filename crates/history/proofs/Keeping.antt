@@ -1,7 +1,7 @@
 -- Every call keeps a ledger and a receiver linked.
 use Rattle.std.proofs.Common.{◌≡◌, ℕ, ◌<◌, true, ◌||◌, ◌⊎◌, List, [], ◌∷◌, ◌++◌, Some, None, Ok, Err, Option, Result, sym, refl, ap, ◌∙◌, subst, inl, inr, arith}
 use Rattle.std.specs.List.{Contains}
-use Rattle.std.proofs.lemmas.Bool.{cases_eq, eq-eqb, ne_eqb, or_left, false≢true, true≢false}
+use Rattle.std.proofs.lemmas.Bool.{MatchBool-at_true, MatchBool-at_false, cases_Bool, cases_eq, eq-eqb, ne_eqb, or_left, false≢true, true≢false}
 use Rattle.std.proofs.lemmas.Option.{none-some, same_Some}
 use Rattle.refusal.specs.declared.Refusal.TheVariants.{NoShape}
 use Rattle.refusal.specs.declared.Refusal.{Refusal}
@@ -17,7 +17,7 @@ use Rattle.receiver.specs.declared.Taken.TheVariants.{Shaped as shape_set, Fresh
 use Rattle.receiver.specs.declared.Whole.{Whole as Completed}
 use Rattle.receiver.specs.Meaning.{Meaning}
 use Rattle.receiver.specs.Sound.{Sound}
-use Rattle.receiver.specs.Calls.{Starts, Keeps, Knows, take_refusal, Took}
+use Rattle.receiver.specs.Calls.{is_set, Starts, Started, TookShape, Keeps, Knows, take_refusal, Took}
 use Rattle.receiver.specs.Repairs.{repair_refusal, Completes, MadeWhole}
 use Rattle.history.specs.Steps.{AfterRepair}
 use Rattle.history.specs.declared.call.Call.{Call}
@@ -144,12 +144,24 @@ module _ (P : Board) where
             };
       }
 
+    -- a shape's frame
+    shaped : (d : Dimensions) (r : Result Taken Refusal) (after : Meaning) → Started m d r after → Linked P (after_frame l (shape d) (taken r)) after
+    shaped d (Ok shape_set) after S = begins d after S
+    shaped d (Ok packet_put) after S = absurd S
+    shaped d (Ok packet_held) after S = absurd S
+    shaped d (Err e) after S = stays after S
+
+    shape_taken : (d : Dimensions) (r : Result Taken Refusal) (after : Meaning) → TookShape m d r after → Linked P (after_frame l (shape d) (taken r)) after
+    shape_taken d r after T = elim (cases_Bool (is_set m.shape d)) [
+      | inl e ↦
+          let (known, same) = MatchBool-at_true _ _ e T in
+          subst (λ r. Linked P (after_frame l (shape d) (taken r)) after) (sym known) (stays after same)
+      | inr e ↦ shaped d r after (MatchBool-at_false _ _ e T)
+    ]
+
     -- a frame
     takes : Sound P.bits m.shape m.grid → (f : Sight) (r : Result Taken Refusal) (after : Meaning) → refused_with r ≡ take_refusal P.bits m f → Took m f r after → Linked P (after_frame l f (taken r)) after
-    takes sound (shape d) (Ok shape_set) after q T = begins d after T
-    takes sound (shape d) (Ok packet_put) after q T = absurd T
-    takes sound (shape d) (Ok packet_held) after q T = absurd T
-    takes sound (shape d) (Err e) after q T = stays after T
+    takes sound (shape d) r after q T = shape_taken d r after T
     takes sound (packet i j ws) (Ok shape_set) after q T = absurd T
     takes sound (packet i j ws) (Ok packet_put) after q T = keeps sound i j ws (shape_there P.bits m i j ws q) after T
     takes sound (packet i j ws) (Ok packet_held) after q T = subst (Linked P (accepting l (acceptance i j ws))) (sym T.same) (knows sound i j ws (shape_there P.bits m i j ws q) after T)

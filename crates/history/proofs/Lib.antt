@@ -1,6 +1,7 @@
 mod Ledgers
 mod Shapes
 mod Linked
+mod Present
 mod Keeping
 mod Lawful
 mod Taking

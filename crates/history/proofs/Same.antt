@@ -16,12 +16,13 @@ use Rattle.store.specs.Grids.{format_refusal}
 use Rattle.history.specs.declared.call.Call.{Call}
 use Rattle.history.specs.declared.call.Call.TheVariants.{Take, Repair, Fetch, Count}
 use Rattle.history.specs.declared.call.Answer.{Answer}
-use Rattle.history.specs.declared.call.Answer.TheVariants.{Shaped, Whole, Held}
+use Rattle.history.specs.declared.call.Answer.TheVariants.{Shaped, Known, Whole, Held}
 use Rattle.history.specs.Turns.{Turn, refusal_in, Answers, Refuses, Checked, asked}
 use Rattle.history.specs.Ledger.{Ledger, ledger, has}
 use Rattle.history.specs.Boards.{Board, SameProduct}
-use Rattle.history.specs.Law.{InShape, Agrees, held, IsThere, TakenAt, Repaired, FetchedAt, TakeLaw, CallLaw, History}
+use Rattle.history.specs.Law.{InShape, Agrees, held, IsThere, TakenAt, Repaired, FetchedAt, ShapeTaken, TakeLaw, CallLaw, History}
 use Rattle.history.proofs.Shapes.{same_shape}
+use Rattle.history.proofs.Present.{present_or_not}
 use Rattle.code.proofs.Agreeing.{Moves, one_moved, several_moved, none_moved}
 use Rattle.code.proofs.Products.{same_codeword, same_syndrome}
 use Rattle.history.proofs.Answered.{refused_only}
@@ -151,12 +152,18 @@ module _ (P Q : Board) (E : Alike P Q) (capacity : P.capacity ≡ Q.capacity) (l
           long : length after ≡ length after'
           long = R.long ∙ sym R'.long
 
+    same_shaped : (d : Dimensions) → ShapeTaken P l d t → ShapeTaken Q l d t' → Same
+    same_shaped d T T' = elim (present_or_not l.shape d) [
+      | inl e ↦ same_answered Known (T.again e) (T'.again e)
+      | inr n ↦
+          same_checked _ _ _ (same_answered Shaped) (T.other n)
+          (subst (λ n. Checked t' (or_else (shape_refusal n d) (format_refusal P.capacity d.blocks d.positions (d.rows * d.words))) (Answers t' Shaped)) (sym E.width)
+          (subst (λ n. Checked t' (or_else (shape_refusal Q.bits d) (format_refusal n d.blocks d.positions (d.rows * d.words))) (Answers t' Shaped)) (sym capacity) (T'.other n)))
+    ]
+
     same_sight : (f : Sight) → TakeLaw P l t f → TakeLaw Q l t' f → Same
     same_sight (refused e) T T' = same_refusal (said BadFrame) T T'
-    same_sight (shape d) T T' =
-        same_checked _ _ _ (same_answered Shaped) T
-        (subst (λ n. Checked t' (or_else (shape_refusal n d) (format_refusal P.capacity d.blocks d.positions (d.rows * d.words))) (Answers t' Shaped)) (sym E.width)
-        (subst (λ n. Checked t' (or_else (shape_refusal Q.bits d) (format_refusal n d.blocks d.positions (d.rows * d.words))) (Answers t' Shaped)) (sym capacity) T'))
+    same_sight (shape d) T T' = same_shaped d T T'
     same_sight (packet i j ws) T T' = same_in_shape l.shape _ _ (λ s. same_checked _ _ _ (same_taken s i j ws)) T T'
 
     same_call : (c : Call) → CallLaw P l t c → CallLaw Q l t' c → Same

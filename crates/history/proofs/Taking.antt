@@ -1,6 +1,6 @@
 -- From a ledger and a receiver that are linked to the law of a frame.
 use Rattle.std.proofs.Common.{◌≡◌, ℕ, ◌<◌, List, is_some, Some, None, Ok, Err, Option, Result, sym, refl, ap, ◌∙◌, inl, inr, arith}
-use Rattle.std.proofs.lemmas.Bool.{cases_Bool, cond-true, cond-false, true≢false, false≢true}
+use Rattle.std.proofs.lemmas.Bool.{cases_Bool, cond-true, cond-false, true≢false, false≢true, MatchBool-at_true, MatchBool-at_false}
 use Rattle.std.proofs.lemmas.Option.{none-some, same_Some}
 use Rattle.refusal.specs.declared.Refusal.TheVariants.{BadFrame, NoShape, OtherPacket}
 use Rattle.refusal.specs.declared.Refusal.{Refusal}
@@ -12,16 +12,17 @@ use Rattle.receiver.specs.declared.Taken.{Taken}
 use Rattle.receiver.specs.declared.Taken.TheVariants.{Shaped as shape_set, Fresh as packet_put, Known as packet_held}
 use Rattle.receiver.specs.Meaning.{Meaning}
 use Rattle.receiver.specs.Sound.{Sound}
-use Rattle.receiver.specs.Calls.{same_words, length_refusal, place_refusal, other_refusal, start_refusal, TookShape, TookPacket, take_refusal, Took}
+use Rattle.receiver.specs.Calls.{same_words, length_refusal, place_refusal, other_refusal, is_set, start_refusal, Started, TookShape, TookPacket, take_refusal, Took}
 use Rattle.receiver.proofs.Slots.{same_decides}
 use Rattle.history.specs.declared.call.Answer.TheVariants.{Shaped}
 use Rattle.history.specs.Turns.{Turn, refusal_in, Refuses}
 use Rattle.history.specs.Ledger.{Ledger, has}
 use Rattle.history.specs.Boards.{Board}
-use Rattle.history.specs.Law.{IsThere, TakenAt, TakeLaw}
+use Rattle.history.specs.Law.{IsThere, TakenAt, ShapeTaken, TakeLaw}
 use Rattle.history.specs.Steps.{taken, Takes}
 use Rattle.history.proofs.Linked.{Kept, Linked, has_slot, slot_there, there_slot}
 use Rattle.history.proofs.Lawful.{checked, in_shape}
+use Rattle.history.proofs.Present.{set_is, is_there}
 
 refusal_taken : (r : Result Taken Refusal) → refusal_in (taken r) ≡ refused_with r
 refusal_taken (Ok shape_set) = refl
@@ -117,17 +118,26 @@ module _ (P : Board) (l : Ledger) (m : Meaning) (L : Linked P l m) (sound : Soun
         (λ s is. checked t _ _ (λ e f. refuses _ q e (packet_refused m s i j ws e is f)) (λ f.
         place_law s is i j (grind (arith, f)) ws r after a (q ∙ packet_passes m s i j ws is f) T))
 
-    shaped : (d : Dimensions) (r : Result Taken Refusal) → refused_with r ≡ None → TookShape m d r after → taken r ≡ Shaped
+    shaped : (d : Dimensions) (r : Result Taken Refusal) → refused_with r ≡ None → Started m d r after → taken r ≡ Shaped
     shaped d (Ok shape_set) q T = refl
     shaped d (Ok packet_put) q T = absurd T
     shaped d (Ok packet_held) q T = absurd T
     shaped d (Err x) q T = absurd (none-some _ (sym q))
 
+    shape_law : (d : Dimensions) → refused_with r ≡ take_refusal P.bits m (shape d) → TookShape m d r after → ShapeTaken P l d t
+    shape_law d q T = record {
+      again = λ e. (a ∙ ap taken (MatchBool-at_true _ _ (is_there m.shape d (sym L.shape_is ∙ e)) T).0, same_run);
+      other = λ n. elim (cases_Bool (is_set m.shape d)) [
+        | inl e ↦ absurd (n (L.shape_is ∙ set_is m.shape d e))
+        | inr e ↦
+            let check = q ∙ cond-false (is_set m.shape d) _ _ e ∙ ap (λ n. start_refusal P.bits (record m { capacity = n }) d) L.capacity_is in
+            checked t _ _ (refuses _ check) (λ f. (a ∙ shaped d r (check ∙ f) (MatchBool-at_false _ _ e T), same_run))
+      ];
+    }
+
     sight_law : (f : Sight) → ((e : ℕ × List ℕ) → f ≡ refused e → e ≡ said BadFrame) → refused_with r ≡ take_refusal P.bits m f → Took m f r after → TakeLaw P l t f
     sight_law (refused e) nine q T = refuses _ q (said BadFrame) (ap Some (nine e refl))
-    sight_law (shape d) nine q T =
-        let check = q ∙ ap (λ n. start_refusal P.bits (record m { capacity = n }) d) L.capacity_is in
-        checked t _ _ (refuses _ check) (λ f. (a ∙ shaped d r (check ∙ f) T, same_run))
+    sight_law (shape d) nine q T = shape_law d q T
     sight_law (packet i j ws) nine q T = packet_law i j ws q T
 
 pub take_law : (P : Board) (l : Ledger) (m : Meaning) → Linked P l m → Sound P.bits m.shape m.grid → (t : Turn) (after : Meaning) → Takes P.bits m t after → TakeLaw P l t (parse t.before)

@@ -76,11 +76,17 @@ module _ (P : Board) (l : Ledger) (s : Shape) (i : ℕ) where
     pub only : (ws : List ℕ) → IsThere j ws → ws ≡ t.after
     pub empty : has l i j ≡ false → Refuses t (said SlotEmpty)
 
--- a frame is refused with 9; with a shape 1 to 4 by its dimensions, then 20 by the store; with a packet 10, 5, 11
+-- the frame of the present shape is known; that of any other is refused with 1 to 4 by its dimensions, then 20 by the store, and else sets
+-- its shape
+pub record ShapeTaken (P : Board) (l : Ledger) (d : Dimensions) (t : Turn) : Type 0 where
+  pub again : l.shape ≡ Some d → Answers t Known
+  pub other : l.shape ≢ Some d
+      → Checked t (or_else (shape_refusal P.bits d) (format_refusal P.capacity d.blocks d.positions (d.rows * d.words))) (Answers t Shaped)
+
+-- a frame is refused with 9; that of a packet with 10, 5, 11
 abbrev pub TakeLaw : Board → Ledger → Turn → Sight → Type 0
 TakeLaw P l t (refused e) = Refuses t (said BadFrame)
-TakeLaw P l t (shape d) =
-    Checked t (or_else (shape_refusal P.bits d) (format_refusal P.capacity d.blocks d.positions (d.rows * d.words))) (Answers t Shaped)
+TakeLaw P l t (shape d) = ShapeTaken P l d t
 TakeLaw P l t (packet i j ws) =
     InShape P t l.shape (λ s. Checked t (or_else (length_refusal s ws) (place_refusal s i j)) (TakenAt P l s i j ws t))
 

@@ -35,10 +35,12 @@ accepting l a = record l { accepted = a ∷ l.accepted }
 abbrev pub completing : Ledger → ℕ → Ledger
 completing l i = record l { whole = λ a. a == i || l.whole a }
 
--- What is entered: a shape, which wipes the ledger; a packet; a whole block. Every other call leaves the ledger.
+-- What is entered: a shape that is set, which wipes the ledger; a packet that is fresh or known; a whole block. Every other call leaves the
+-- ledger, and so does the frame of a shape that is known.
 
 abbrev pub after_frame : Ledger → Sight → Answer → Ledger
 after_frame l (shape d) Shaped = opened (Some d)
+after_frame l (shape d) Known = l
 after_frame l (packet i j ws) Fresh = accepting l (acceptance i j ws)
 after_frame l (packet i j ws) Known = accepting l (acceptance i j ws)
 after_frame l frame answer = l

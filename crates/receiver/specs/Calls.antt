@@ -1,5 +1,5 @@
 -- What the calls of a receiver answer, and what they leave behind. A receiver is spoken of by its meaning.
-use Rattle.std.specs.Prelude.{◌≡◌, ℕ, ◌*◌, ◌<◌, Bool, true, false, cond, ◌&&◌, List, [], ◌∷◌, is_some, Some, None, Ok, Err, Option, Result, ◌==◌, nat_lt}
+use Rattle.std.specs.Prelude.{◌≡◌, ℕ, ◌*◌, ◌<◌, Bool, true, false, cond, ◌&&◌, List, [], ◌∷◌, is_some, Some, None, Ok, Err, Option, Result, MatchBool, ◌==◌, nat_lt}
 use Rattle.refusal.specs.declared.Refusal.{Refusal}
 use Rattle.refusal.specs.declared.Refusal.TheVariants.{NoShape, OtherPacket, OutsideShape, SlotEmpty}
 use Rattle.refusal.specs.Numbers.{said, or_else}
@@ -44,6 +44,10 @@ length_refusal s ws = run_refusal s 1 ws 0
 
 -- TAKE
 
+-- whether two shapes have the same five numbers
+abbrev pub same_dimensions : Dimensions → Dimensions → Bool
+same_dimensions d e = d.rows == e.rows && (d.positions == e.positions && (d.sources == e.sources && (d.blocks == e.blocks && d.words == e.words)))
+
 -- whether two lists are the same words
 abbrev pub same_words : List ℕ → List ℕ → Bool
 same_words [] [] = true
@@ -70,9 +74,14 @@ packet_refusal m i j ws =
 abbrev pub start_refusal : ℕ → Meaning → Dimensions → Option (ℕ × List ℕ)
 start_refusal bits m d = or_else (shape_refusal bits d) (format_refusal m.capacity d.blocks d.positions (d.rows * d.words))
 
--- the refusal of a frame
+-- whether the shape that is set has these dimensions, so that its frame has the very words of one that tells them
+abbrev pub is_set : Option Shape → Dimensions → Bool
+is_set None d = false
+is_set (Some s) d = same_dimensions (dimensions_of s) d
+
+-- the refusal of a frame: none, if it tells the shape that is set
 abbrev pub take_refusal : ℕ → Meaning → Sight → Option (ℕ × List ℕ)
-take_refusal bits m (shape d) = start_refusal bits m d
+take_refusal bits m (shape d) = cond (is_set m.shape d) None (start_refusal bits m d)
 take_refusal bits m (packet i j ws) = packet_refusal m i j ws
 take_refusal bits m (refused e) = Some e
 
@@ -107,12 +116,16 @@ TookPacket m i j ws (Ok Fresh) after = Keeps m i j ws after
 TookPacket m i j ws (Ok Known) after = Knows m i j ws after
 TookPacket m i j ws (Err e) after = after ≡ m
 
--- what a shape frame does
+-- what the frame of another shape than that which is set does
+abbrev pub Started : Meaning → Dimensions → Result Taken Refusal → Meaning → Type 0
+Started m d (Ok Shaped) after = Starts m d after
+Started m d (Ok Fresh) after = ⊥
+Started m d (Ok Known) after = ⊥
+Started m d (Err e) after = after ≡ m
+
+-- what a shape frame does: if it tells the shape that is set, it is known, and nothing changes
 abbrev pub TookShape : Meaning → Dimensions → Result Taken Refusal → Meaning → Type 0
-TookShape m d (Ok Shaped) after = Starts m d after
-TookShape m d (Ok Fresh) after = ⊥
-TookShape m d (Ok Known) after = ⊥
-TookShape m d (Err e) after = after ≡ m
+TookShape m d answer after = MatchBool (is_set m.shape d) ((answer ≡ Ok Known) × (after ≡ m)) (Started m d answer after)
 
 -- what a frame does, by the answer
 abbrev pub Took : Meaning → Sight → Result Taken Refusal → Meaning → Type 0

@@ -5,7 +5,7 @@ ghost use Rattle.layout.specs.Sizes.{packet_of};
 ghost use Rattle.frame.specs.Frames.{parse};
 ghost use Rattle.store.specs.Calls.{refusal_of_get};
 ghost use Rattle.receiver.specs.Meaning.{StaysShut, means};
-ghost use Rattle.receiver.specs.Calls.{start_refusal, TookShape, slot_holds, packet_refusal, TookPacket, take_refusal, Took};
+ghost use Rattle.receiver.specs.Calls.{is_set, start_refusal, Started, slot_holds, packet_refusal, TookPacket, take_refusal, Took};
 
 use crate::{Receiver, Taken};
 use field::Arithmetic;
@@ -29,11 +29,19 @@ pub fn format_for(shape: &Shape) -> Format
 }
 
 impl<F: Arithmetic, S: SlotStore> Receiver<F, S> {
+    // Whether the shape that is set has these dimensions.
+    fn is_set(&self, dimensions: Dimensions) -> bool
+        ensures { result ≡ is_set self.now.shape dimensions }
+    {
+        self.shape
+            .is_some_and(|shape| shape.dimensions() == dimensions)
+    }
+
     // Sets a shape of these dimensions, and formats the store for it.
     fn start(&mut self, dimensions: Dimensions) -> Result<Taken, Refusal>
         ensures answer { refused_with result
             ≡ start_refusal F.Arithmetic.bits (means self.old) dimensions }
-        ensures after { TookShape (means self.old) dimensions result (means self.new) }
+        ensures after { Started (means self.old) dimensions result (means self.new) }
         ensures shut { StaysShut self.old self.new }
     {
         let shape = Shape::new::<F>(dimensions)?;
@@ -85,9 +93,9 @@ impl<F: Arithmetic, S: SlotStore> Receiver<F, S> {
         }
     }
 
-    /// Takes a frame: a shape starts a transmission, also in the midst of one; a packet goes into its slot. A refused frame leaves
-    /// what the receiver holds; `BadFrame` comes first, then the checks of a shape and `BadFormat`, or `NoShape`, `WrongRun` at
-    /// place 0, `OutsideShape` and `OtherPacket`.
+    /// Takes a frame: a shape starts a transmission, also in the midst of one, unless it is the shape that is set, which is known and
+    /// changes nothing; a packet goes into its slot. A refused frame leaves what the receiver holds; `BadFrame` comes first, then the
+    /// checks of another shape and `BadFormat`, or `NoShape`, `WrongRun` at place 0, `OutsideShape` and `OtherPacket`.
     pub fn take(&mut self, words: &[u32]) -> Result<Taken, Refusal>
         ensures answer { refused_with result
             ≡ take_refusal F.Arithmetic.bits (means self.old) (parse words.now) }
@@ -95,6 +103,7 @@ impl<F: Arithmetic, S: SlotStore> Receiver<F, S> {
         ensures shut { StaysShut self.old self.new }
     {
         match (self.shape, Frame::try_from(words)?) {
+            (_, Frame::Shape(dimensions)) if self.is_set(dimensions) => Ok(Taken::Known),
             (_, Frame::Shape(dimensions)) => self.start(dimensions),
             (None, Frame::Packet { .. }) => Err(Refusal::NoShape),
             (

@@ -1,3 +1,4 @@
 pub mod Places
 pub mod Parts
 pub mod Fits
+pub mod Order

@@ -23,6 +23,7 @@ ghost use Rattle.sender.specs.Sent.{packets_refusal};
 use layout::shape::Shape;
 use refusal::Refusal;
 
+pub mod broadcast;
 pub mod frames;
 pub mod numbering;
 pub mod prepare;
