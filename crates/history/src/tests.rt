@@ -12,6 +12,9 @@ use store::transposed::Transposed;
 // One block of three packets of eight words, over the field of 256 elements: position 2 is source.
 const SHAPE: &[u32] = &[0x18003001, 0x20010001];
 
+// The same with two source packets in a block.
+const OTHER_SHAPE: &[u32] = &[0x18003002, 0x20010001];
+
 // The packets of positions 0 and 2 of one codeword, and what is at position 1.
 const FIRST: &[u32] = &[0x30000000, 0, 1, 0, 0, 0, 0, 0, 0];
 
@@ -131,7 +134,8 @@ fn both_recover(rt: HostRuntime) -> Result<(), Fail> {
     )
 }
 
-// The same calls, before and after a block is contradictory; the shape comes again in between.
+// The same calls, before and after a block is contradictory; in between the shape comes again, which wipes nothing, and another shape,
+// which wipes all.
 #[test]
 fn both_answer_alike(rt: HostRuntime) -> Result<(), Fail> {
     let shaped = take(SHAPE, Answer::Shaped);
@@ -147,8 +151,12 @@ fn both_answer_alike(rt: HostRuntime) -> Result<(), Fail> {
         refused(REPAIR, SEVENS, Refusal::TooFew),
         refused(FETCH, &SEVENS[..8], Refusal::SlotEmpty),
         fresh,
-        shaped,
+        take(SHAPE, Answer::Known),
+        leaves(COUNT, &[9], Answer::Held { positions: 1 }),
+        take(FIRST, Answer::Known),
+        take(OTHER_SHAPE, Answer::Shaped),
         leaves(COUNT, &[9], Answer::Held { positions: 0 }),
+        shaped,
         fresh,
         take(CLASHING, Answer::Fresh),
         contradictory,

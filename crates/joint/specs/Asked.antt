@@ -1,9 +1,10 @@
 -- What a board is asked: to take the frames that arrive, to repair every block, and to give every packet.
-use Rattle.std.specs.Prelude.{◌≡◌, ℕ, ◌+◌, ◌≤◌, List, ◌++◌, length, Some, slice_get}
+use Rattle.std.specs.Prelude.{◌≡◌, ℕ, ◌+◌, ◌<◌, ◌≤◌, List, ◌++◌, length, Some, slice_get}
 use Rattle.layout.specs.declared.shape.Shape.{Shape}
 use Rattle.layout.specs.Sizes.{parity_of, Packets}
 use Rattle.frame.specs.Frames.{parse}
 use Rattle.sender.specs.Numbering.{frame_block, frame_position, last_frame}
+use Rattle.sender.specs.Broadcast.{frame_in, turns_of}
 use Rattle.sender.specs.Sent.{sent}
 use Rattle.history.specs.declared.call.Call.TheVariants.{Take, Repair, Fetch}
 use Rattle.history.specs.declared.call.Entry.{Entry}
@@ -15,10 +16,13 @@ use Rattle.joint.specs.declared.head_end.HeadEnd.{HeadEnd}
 abbrev pub AtEach : (ℕ → Entry → Type 0) → List Entry → Type 0
 AtEach P entries = (k : ℕ) (e : Entry) → slice_get entries k ≡ Some e → P k e
 
--- to take a frame that a head-end sends
-pub record AsksFrame (h : HeadEnd) (k : ℕ) (e : Entry) : Type 0 where
+-- to take the frame that a head-end sends in a turn, once the board is awake
+pub record AsksFrame (h : HeadEnd) (late k : ℕ) (e : Entry) : Type 0 where
   pub call : e.call ≡ Take
-  pub frame : (number : ℕ) × (number ≤ last_frame h.shape) × (parse e.run.items ≡ sent (sends h) number)
+  pub turn : ℕ
+  pub awake : late ≤ turn
+  pub within : turn < turns_of h.shape
+  pub frame : parse e.run.items ≡ sent (sends h) (frame_in turn)
 
 -- to repair block k, with a work run of its length
 pub record AsksRepair (s : Shape) (k : ℕ) (e : Entry) : Type 0 where
@@ -44,6 +48,6 @@ pub record Asked (h : HeadEnd) (b : Board) : Type 0 where
   pub fetches : List Entry
   pub entries_are : b.entries.items ≡ frames ++ (repairs ++ fetches)
   pub heard : length frames ≡ b.heard
-  pub taken : AtEach (AsksFrame h) frames
+  pub taken : AtEach (AsksFrame h b.link.late) frames
   pub repaired : Repairs h.shape repairs
   pub fetched : FetchesAll h.shape fetches

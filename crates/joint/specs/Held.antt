@@ -1,11 +1,14 @@
 -- What a board gave of a transmission.
 use Rattle.std.specs.Prelude.{◌≡◌, ℕ, ◌-◌, ◌<◌, ◌≤◌, List, [], ◌∷◌, Some, None, Option, slice_get, drop}
+use Rattle.refusal.specs.declared.Refusal.TheVariants.{NoShape}
 use Rattle.refusal.specs.Numbers.{or_else}
 use Rattle.sender.specs.Numbering.{frame_block, frame_position}
 use Rattle.sender.specs.Sending.{Sending}
 use Rattle.sender.specs.Sent.{packet_at, payload_of}
-use Rattle.history.specs.declared.call.Call.TheVariants.{Fetch}
-use Rattle.history.specs.declared.call.Answer.TheVariants.{Whole, Fetched}
+use Rattle.history.specs.declared.call.Call.{Call}
+use Rattle.history.specs.declared.call.Call.TheVariants.{Take, Fetch}
+use Rattle.history.specs.declared.call.Answer.{Answer}
+use Rattle.history.specs.declared.call.Answer.TheVariants.{Whole, Fetched, Refused}
 use Rattle.history.specs.declared.call.Entry.{Entry}
 use Rattle.history.specs.Turns.{refusal_in}
 use Rattle.joint.specs.Sends.{sends}
@@ -45,7 +48,12 @@ abbrev pub WholeIn : ℕ → Option Entry → Type 0
 WholeIn n (Some e) = e.answer ≡ Whole n
 WholeIn n None = ⊥
 
+-- what a call was refused with; a frame that comes before any shape is as good as lost
+abbrev pub refusal_of : Call → Answer → Option (ℕ × List ℕ)
+refusal_of Take (Refused NoShape) = None
+refusal_of call answer = refusal_in answer
+
 -- the first refusal among the answers
 abbrev pub first_refusal : List Entry → Option (ℕ × List ℕ)
 first_refusal [] = None
-first_refusal (e ∷ entries) = or_else (refusal_in e.answer) (first_refusal entries)
+first_refusal (e ∷ entries) = or_else (refusal_of e.call e.answer) (first_refusal entries)

@@ -1,5 +1,5 @@
 //! One board: what it is asked, and what it answered.
-ghost use Rattle.std.specs.Prelude.{◌≡◌, ◌↔◌, IsTrue, IfOk, drop, slice_get};
+ghost use Rattle.std.specs.Prelude.{◌≡◌, ◌↔◌, IsTrue, IfOk, None, drop, slice_get};
 ghost use Rattle.refusal.specs.Numbers.{refused_with};
 ghost use Rattle.sender.specs.Sending.{sending_of};
 ghost use Rattle.joint.specs.Asked.{Asked};
@@ -75,16 +75,35 @@ impl Board {
         })
     }
 
-    /// Refused with the first refusal among the answers, if there is one.
+    /// Refused with the first refusal among the answers, if there is one but of frames that came before any shape.
     pub fn check(&self) -> Result<(), Refusal>
         ensures { refused_with result ≡ first_refusal self.now.entries.items }
     {
         for entry in &self.entries {
-            if let Answer::Refused(refusal) = entry.answer {
-                return Err(refusal);
+            match (entry.call, entry.answer) {
+                (Call::Take, Answer::Refused(Refusal::NoShape)) => {}
+                (_, Answer::Refused(refusal)) => return Err(refusal),
+                _ => {}
             }
         }
         Ok(())
+    }
+
+    /// Fails if the board was refused anything but frames that came before any shape.
+    pub fn require(&self) -> anyhow::Result<()>
+        ensures { IfOk result (λ u. first_refusal self.now.entries.items ≡ None) }
+    {
+        let name = self.name;
+        match self.check() {
+            Ok(()) => Ok(()),
+            Err(Refusal::NoShape) => Err(anyhow!(
+                "the {name} board missed every frame of the shape"
+            )),
+            Err(Refusal::TooFew) => Err(anyhow!(
+                "the {name} board missed too many packets to restore the image"
+            )),
+            Err(refusal) => Err(refusal.into()),
+        }
     }
 
     /// The repairs of all blocks and the fetches of all packets: they come behind the frames.
@@ -114,7 +133,7 @@ impl Board {
     pub fn tell(&self, rt: &HostRuntime, block: usize) -> anyhow::Result<()> {
         self.restored(block)?;
         let name = self.name;
-        let lost = self.link.lost(block);
+        let lost = self.link.lost(rt.alloc(), block)?;
         println!(rt; "block {block}: the {name} board lost {lost:?} and restored all")?;
         Ok(())
     }

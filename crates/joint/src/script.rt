@@ -6,15 +6,19 @@ use crate::head_end::HeadEnd;
 use crate::link::Link;
 use history::call::{Call, Entry};
 use layout::shape::Shape;
+use sender::broadcast::{frame_of, turns};
 use sender::numbering::{frames, place};
 use std::alloc::Global;
 
-/// To take each frame that the link does not lose, in order.
+/// To take each frame that goes out once the board is awake, and that the link does not lose, in the order of the broadcast.
 pub fn takes(heap: Global, head_end: &HeadEnd, link: &Link) -> anyhow::Result<Vec<Entry>>
-    ensures { IfOk result (λ entries. AtEach (AsksFrame head_end.now) entries.items) }
+    ensures { IfOk result
+        (λ entries. AtEach (AsksFrame head_end.now link.now.late) entries.items) }
 {
+    let shape = head_end.shape();
     let mut entries = Vec::new(heap);
-    for number in 0..frames(head_end.shape()) {
+    for turn in link.late()..turns(shape) {
+        let number = frame_of(shape, turn)?;
         if link.loses(number)? {
             continue;
         }

@@ -11,6 +11,16 @@ use store::transposed::Transposed;
 // One block of three packets of four words, over the field of 16 elements.
 const SHAPE: [u32; 2] = [0x14003001, 0x20010001];
 
+// The frames of shapes that differ from it in one number: positions, sources, blocks, words, and rows, which no nibble has. A store of 30
+// words has room for each.
+const OTHER_SHAPES: [([u32; 2], Result<Taken, Refusal>); 5] = [
+    ([0x14004001, 0x20010001], Ok(Taken::Shaped)),
+    ([0x14003002, 0x20010001], Ok(Taken::Shaped)),
+    ([0x14003001, 0x20020001], Ok(Taken::Shaped)),
+    ([0x14003001, 0x20010002], Ok(Taken::Shaped)),
+    ([0x15003001, 0x20010001], Err(Refusal::OtherWidth)),
+];
+
 // The packet of the last position.
 const PACKET: [u32; 5] = [0x30000002, 7, 8, 9, 10];
 
@@ -61,8 +71,8 @@ fn receives<S: SlotStore + Drop>(rt: &impl Abort, store: S) {
     keeps(rt, &mut receiver);
     refuses(rt, &mut receiver);
     holds(rt, &receiver);
-    assert_eq!(rt; receiver.take(&SHAPE), Ok(Taken::Shaped));
-    assert_eq!(rt; receiver.count(0), Ok(0));
+    assert_eq!(rt; receiver.take(&SHAPE), Ok(Taken::Known));
+    holds(rt, &receiver);
 }
 
 #[test]
@@ -90,6 +100,20 @@ fn over_flash_transposed(rt: HostRuntime) {
 }
 
 #[test]
+fn another_shape_is_not_known(rt: HostRuntime) {
+    for (frame, answer) in OTHER_SHAPES {
+        let mut words = [5; 30];
+        let mut receiver = Receiver::<Nibble, _>::new(MemoryStore::new(&mut words));
+        assert_eq!(rt; receiver.take(&SHAPE), Ok(Taken::Shaped));
+        assert_eq!(rt; receiver.take(&PACKET), Ok(Taken::Fresh));
+        assert_eq!(rt; receiver.take(&frame), answer);
+        let held = if answer.is_ok() { 0 } else { 1 };
+        assert_eq!(rt; receiver.count(0), Ok(held));
+        assert_eq!(rt; receiver.take(&frame), answer.map(|_| Taken::Known));
+    }
+}
+
+#[test]
 fn a_store_too_small_leaves_it_blank(rt: HostRuntime) {
     let mut words = [0; 14];
     let mut receiver = Receiver::<Nibble, _>::new(MemoryStore::new(&mut words));
@@ -98,4 +122,18 @@ fn a_store_too_small_leaves_it_blank(rt: HostRuntime) {
         receiver.take(&[0x30000002, 7, 8, 9, 10]),
         Err(Refusal::NoShape)
     );
+}
+
+#[test]
+fn a_shape_too_large_leaves_the_one_that_is_set(rt: HostRuntime) {
+    let mut words = [0; 15];
+    let mut receiver = Receiver::<Nibble, _>::new(MemoryStore::new(&mut words));
+    assert_eq!(rt; receiver.take(&SHAPE), Ok(Taken::Shaped));
+    assert_eq!(rt; receiver.take(&PACKET), Ok(Taken::Fresh));
+    assert_eq!(rt;
+        receiver.take(&[0x14003001, 0x20020001]),
+        Err(Refusal::BadFormat)
+    );
+    assert_eq!(rt; receiver.take(&SHAPE), Ok(Taken::Known));
+    holds(&rt, &receiver);
 }

@@ -1,5 +1,6 @@
 //! A transmission of one or two blocks of nibbles, short enough to write out.
 use crate::Transmission;
+use crate::broadcast::{frame_of, turns};
 use crate::numbering::place;
 use crate::prepare::prepare;
 use field::nibble::*;
@@ -55,6 +56,36 @@ fn numbers(rt: HostRuntime) -> Result<(), Fail> {
     assert_eq!(rt; place(&shape, 6), Ok((1, 2)));
     assert_eq!(rt; place(&shape, 7), Err(Refusal::OutsideShape));
     assert_eq!(rt; place(&shape, usize::MAX), Err(Refusal::OutsideShape));
+    Ok(())
+}
+
+// The shape's frame goes out first and behind the fiftieth and the hundredth packet.
+#[test]
+fn broadcasts(rt: HostRuntime) -> Result<(), Fail> {
+    let few = shape(16)?;
+    assert_eq!(rt; turns(&few), 49);
+    assert_eq!(rt; frame_of(&few, 48), Ok(48));
+    assert_eq!(rt; frame_of(&few, 49), Err(Refusal::OutsideShape));
+    let many = Shape::new::<Nibble>(Dimensions {
+        positions: 10,
+        blocks: 10,
+        ..few.dimensions()
+    })?;
+    assert_eq!(rt; turns(&many), 103);
+    let order = [
+        (0, 0),
+        (1, 1),
+        (50, 50),
+        (51, 0),
+        (52, 51),
+        (101, 100),
+        (102, 0),
+    ];
+    for (turn, frame) in order {
+        assert_eq!(rt; frame_of(&many, turn), Ok(frame));
+    }
+    assert_eq!(rt; frame_of(&many, 103), Err(Refusal::OutsideShape));
+    assert_eq!(rt; frame_of(&many, usize::MAX), Err(Refusal::OutsideShape));
     Ok(())
 }
 

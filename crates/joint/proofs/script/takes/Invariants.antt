@@ -1,5 +1,5 @@
 use Rattle.joint.specs.Asked.{AtEach, AsksFrame}
 use Rattle.joint.proofs.script.takes.Given as goal
 
-abbrev pub invariant-loop-number : goal.invariant-loop-number
-invariant-loop-number l = AtEach (AsksFrame l.head_end) l.entries.items
+abbrev pub invariant-loop-turn : goal.invariant-loop-turn
+invariant-loop-turn l = AtEach (AsksFrame l.head_end l.link.late) l.entries.items
