@@ -6,6 +6,7 @@ prints script number N for the program board, with the answer expected behind ea
 What is drawn depends on the start number, on the kind and on how many of that kind were drawn before.
 """
 
+import math
 import random
 import sys
 
@@ -513,7 +514,38 @@ def sender_frame_case(rng):
     return line("frame", [s.made_for, *s.shape, number] + before, result, runs)
 
 
-SENDER_CASES = [prepare_case, numbering_case, payload_case, sender_frame_case]
+def broadcast_shape(rng):
+    """An arithmetic and a shape of any size for it, often with just a multiple of fifty packets."""
+    name = some_arithmetic(rng)
+    shape = some_shape(rng, g.ARITHMETICS[name], 2**20)
+    if chance(rng, 3):
+        shape = shape._replace(B=50 // math.gcd(50, shape.n))
+    return name, shape
+
+
+def some_turn(rng, turns):
+    """A turn near one of the shape's, near the last, any, or far behind all."""
+    way = rng.randrange(6)
+    if way == 0:
+        return rng.choice([2**16, 2**32, 2**63, 2**64 - turns]) + rng.randrange(turns)
+    if way == 1:
+        return rng.randrange(turns)
+    near = turns if way == 2 else 51 * rng.randint(0, turns // 51)
+    return max(0, near + rng.choice([-2, -1, 0, 1]))
+
+
+def turns_case(rng):
+    name, shape = broadcast_shape(rng)
+    return line("turns", [name, *shape], [g.turns(shape)])
+
+
+def turn_case(rng):
+    name, shape = broadcast_shape(rng)
+    turn = some_turn(rng, g.turns(shape))
+    return line("turn", [name, *shape, turn], outcome(g.frame_of, shape, turn))
+
+
+SENDER_CASES = [prepare_case, numbering_case, payload_case, sender_frame_case, turns_case, turn_case, turn_case]
 
 
 def sender_case(rng, number):
@@ -710,7 +742,7 @@ def disturb(script, shape, blocks):
     """Adds a call that is not the next packet."""
     rng = script.rng
     block, position = some_block(rng, shape), some_position(rng, shape)
-    way = rng.randrange(9)
+    way = rng.randrange(10)
     if way == 0:
         script.take(some_frame(rng))
     elif way == 1:
@@ -728,6 +760,8 @@ def disturb(script, shape, blocks):
         script.fetch(block, position, some_length(rng, shape.packet, 6))
     elif way == 7:
         script.count(block)
+    elif way == 8:
+        same_shape(script)
     else:
         script.remark()
 
@@ -735,6 +769,38 @@ def disturb(script, shape, blocks):
 def bad_shape(script, shape):
     """Adds a shape frame that is mostly refused; if it is not, the packets that follow meet another shape."""
     script.take_shape(at_most(some_numbers(script.rng, shape), (15, 4095, 4095, 4095, 255)))
+
+
+def nearly(rng, shape):
+    """A frame that is nearly that of the shape: one number is off by one, or one bit is another."""
+    numbers = list(shape)
+    frame = [0, 0]
+    if chance(rng, 3):
+        g.write_shape_frame(*numbers, frame)
+        frame[rng.randrange(2)] ^= 1 << rng.randrange(32)
+    else:
+        numbers[rng.randrange(5)] += rng.choice([-1, 1])
+        g.write_shape_frame(*numbers, frame)
+    return frame
+
+
+def same_shape(script):
+    """Adds the frame of the present shape again, if there is one."""
+    if script.receiver.shape is not None:
+        script.take_shape(script.receiver.shape)
+
+
+def near_shape(script):
+    """Adds a frame that is nearly that of the present shape, if there is one, and mostly this shape's own behind it."""
+    rng, shape = script.rng, script.receiver.shape
+    if shape is None:
+        return
+    frame = nearly(rng, shape)
+    # The second time it is known only if it was not refused the first time.
+    for _ in range(rng.choice([1, 1, 2])):
+        script.take(frame)
+    if not chance(rng, 4):
+        script.take_shape(shape)
 
 
 def close(script, shape):
@@ -765,6 +831,12 @@ def play(script, shape):
         while chance(rng, calm):
             disturb(script, shape, blocks)
         script.take_packet(block, position, blocks[block][position])
+        if chance(rng, 200):
+            near_shape(script)
+    if chance(rng, 4):
+        near_shape(script)
+    if chance(rng, 2):
+        same_shape(script)
     if not chance(rng, 8):
         close(script, shape)
     if chance(rng, 6):

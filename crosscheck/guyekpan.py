@@ -458,6 +458,7 @@ class Receiver:
         self.field = field
         self.store = store
         self.shape = None
+        self.shape_frame = None
 
     def check_shape(self):
         if self.shape is None:
@@ -484,13 +485,16 @@ class Receiver:
         """Answers "shaped", "fresh" or "known"."""
         content = read_frame(frame)
         if isinstance(content, ShapeFrame):
-            return self.take_shape(content)
+            return self.take_shape(list(frame), content)
         return self.take_packet(content)
 
-    def take_shape(self, numbers):
+    def take_shape(self, frame, numbers):
+        if frame == self.shape_frame:
+            return "known"
         shape = make_shape(self.field, *numbers)
         self.store.format(shape.B, shape.n, shape.packet)
         self.shape = shape
+        self.shape_frame = frame
         return "shaped"
 
     def take_packet(self, frame):
@@ -569,6 +573,27 @@ def numbering(shape, number):
     if not 1 <= number <= shape.B * shape.n:
         raise Refused(11)
     return (number - 1) % shape.B, (number - 1) // shape.B
+
+
+def broadcast(shape):
+    """The numbers of the frames in the order in which they go out."""
+    order = [0]
+    for number in range(1, shape.B * shape.n + 1):
+        order.append(number)
+        if number % 50 == 0:
+            order.append(0)
+    return order
+
+
+def turns(shape):
+    return len(broadcast(shape))
+
+
+def frame_of(shape, turn):
+    order = broadcast(shape)
+    if turn >= len(order):
+        raise Refused(11)
+    return order[turn]
 
 
 def payload(shape, number, image, parity):

@@ -45,6 +45,28 @@ def frames():
     assert run == [0x30000002]
 
 
+def shape_again():
+    shape, packet = [0x14003001, 0x20010001], [0x30000002, 7, 8, 9, 0xA]
+    receiver = g.Receiver(g.NIBBLE, g.memory_store(15))
+    assert [receiver.take(frame) for frame in (shape, packet, shape, packet)] == ["shaped", "fresh", "known", "known"]
+    assert receiver.count(0) == 1
+    assert refusal(receiver.take, [0x14004001, 0x20010001]) == (20,)
+    assert receiver.take(shape) == "known"
+    assert receiver.take([0x14003002, 0x20010001]) == "shaped"
+    assert receiver.count(0) == 0
+    assert receiver.take(shape) == "shaped"
+
+
+def order():
+    fifty = g.make_shape(g.NIBBLE, 4, 10, 9, 5, 1)
+    assert g.turns(fifty) == 52
+    assert [g.frame_of(fifty, turn) for turn in range(52)] == [*range(51), 0]
+    assert refusal(g.frame_of, fifty, 52) == (11,)
+    more = g.make_shape(g.NIBBLE, 4, 13, 9, 4, 1)
+    assert g.turns(more) == 54
+    assert [g.frame_of(more, turn) for turn in (50, 51, 52, 53)] == [50, 0, 51, 52]
+
+
 def limits():
     assert refusal(g.memory_store(15).format, 1, 3, 4) is None
     assert refusal(g.memory_store(14).format, 1, 3, 4) == (20,)
@@ -55,6 +77,6 @@ def limits():
 
 
 if __name__ == "__main__":
-    for known in (fields, block_of_three, frames, limits):
+    for known in (fields, block_of_three, frames, shape_again, order, limits):
         known()
     print("known values: all as in the rules")

@@ -28,6 +28,8 @@ pub fn result(heap: Global, name: &str, arguments: &str) -> Result<String, Error
         "write-packet" => frames::write_packet(words),
         "prepare" => transmissions::prepare(words),
         "numbering" => transmissions::numbering(words),
+        "turns" => transmissions::turns(words),
+        "turn" => transmissions::turn(words),
         "payload" => transmissions::payload(words),
         "frame" => transmissions::frame(words),
         _ => Err(Error::NoName),

@@ -15,6 +15,10 @@ pub enum Answer {
     Packet { block: usize, position: usize },
     /// Those that a number of a frame stands for.
     Place { block: usize, position: usize },
+    /// How many turns a broadcast has.
+    Turns(usize),
+    /// The number of the frame that goes out in a turn.
+    Number(usize),
 }
 
 impl fmt::Display for Answer {
@@ -36,6 +40,8 @@ impl fmt::Display for Answer {
             ) => write!(f, "shape {rows} {positions} {sources} {blocks} {words}"),
             Answer::Packet { block, position } => write!(f, "packet {block} {position}"),
             Answer::Place { block, position } => write!(f, "done {block} {position}"),
+            Answer::Turns(turns) => write!(f, "{turns}"),
+            Answer::Number(frame) => write!(f, "done {frame}"),
         }
     }
 }

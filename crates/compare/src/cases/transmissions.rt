@@ -5,8 +5,8 @@ use crate::words::{Error, Words};
 use field::Arithmetic;
 use layout::shape::Shape;
 use refusal::Refusal;
-use sender::Transmission;
 use sender::numbering::place;
+use sender::{Transmission, broadcast};
 
 #[derive(Drop)]
 struct Preparation {
@@ -43,6 +43,21 @@ pub fn numbering(mut words: Words) -> Result<String, Error> {
     words.end()?;
     let at = place(&shape, number);
     let reply = Reply(at.map(|(block, position)| Answer::Place { block, position }));
+    Ok(format!(in words.heap; "{reply}")?)
+}
+
+pub fn turns(mut words: Words) -> Result<String, Error> {
+    let shape = words.shape()?;
+    words.end()?;
+    let reply = Answer::Turns(broadcast::turns(&shape));
+    Ok(format!(in words.heap; "{reply}")?)
+}
+
+pub fn turn(mut words: Words) -> Result<String, Error> {
+    let shape = words.shape()?;
+    let turn = words.number()?;
+    words.end()?;
+    let reply = Reply(broadcast::frame_of(&shape, turn).map(Answer::Number));
     Ok(format!(in words.heap; "{reply}")?)
 }
 
