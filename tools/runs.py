@@ -1,8 +1,8 @@
 #!/usr/bin/env python3
 """Runs each program as its folder crates/PROGRAM/runs/RUN says, and compares what it writes and how it ends.
 
-A run has the files args, one word a line, stdout and stderr, and status, where one is not there it is empty, or 0. The program runs in
-crates/PROGRAM/data. `rt ci` knows one run of a program: its files lie in the crate's own folder.
+A run has the files args (one word a line), stdout, stderr and status; a file that is not there counts as empty, and status as 0. The
+program runs in crates/PROGRAM/data. `rt ci` makes one run of each program: its files lie in the crate's own folder.
 """
 
 import glob
@@ -22,19 +22,21 @@ def text_of(folder, name):
 
 
 def build(crate):
-    """Builds a program, and answers where it lies."""
-    # It is run as well, without arguments: how that ends does not matter here.
-    built = subprocess.run(["rt", "run"], cwd=crate, stdin=subprocess.DEVNULL, capture_output=True, text=True)
+    """Proves and builds a program, and answers where it lies."""
     program = os.path.join(crate, "out", os.path.basename(crate))
-    if not os.path.exists(program):
-        sys.exit(f"{crate} is not built:\n{built.stdout[-2000:]}{built.stderr[-2000:]}")
-    return program
+    made = subprocess.run(["rt", "check"], cwd=crate, capture_output=True, text=True)
+    if made.returncode == 0:
+        # This runs the program too, without arguments, and ends as that does.
+        made = subprocess.run(["rt", "run"], cwd=crate, stdin=subprocess.DEVNULL, capture_output=True, text=True)
+        if os.path.exists(program):
+            return program
+    sys.exit(f"{crate} is not built:\n{made.stdout[-2000:]}{made.stderr[-2000:]}")
 
 
 def differences(crate, program, run):
     """What a run does otherwise than its folder says."""
-    args = text_of(run, "args").split("\n")[:-1]
-    done = subprocess.run([program, *args], cwd=os.path.join(crate, "data"), stdin=subprocess.DEVNULL, capture_output=True, text=True)
+    args = text_of(run, "args").splitlines()
+    done = subprocess.run([program, *args], cwd=os.path.join(crate, "data"), stdin=subprocess.DEVNULL, capture_output=True, text=True, timeout=120)
     status = int(text_of(run, "status") or 0)
     got = {"stdout": done.stdout, "stderr": done.stderr, "status": done.returncode}
     wanted = {"stdout": text_of(run, "stdout"), "stderr": text_of(run, "stderr"), "status": status}

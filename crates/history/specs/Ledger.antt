@@ -35,8 +35,8 @@ accepting l a = record l { accepted = a ∷ l.accepted }
 abbrev pub completing : Ledger → ℕ → Ledger
 completing l i = record l { whole = λ a. a == i || l.whole a }
 
--- What is entered: a shape that is set, which wipes the ledger; a packet that is fresh or known; a whole block. Every other call leaves the
--- ledger, and so does the frame of a shape that is known.
+-- What is entered: a shape that is answered shaped, which wipes the ledger; a packet that is answered fresh or known; a whole block. Every
+-- other call leaves the ledger, and so does a shape that is answered known.
 
 abbrev pub after_frame : Ledger → Sight → Answer → Ledger
 after_frame l (shape d) Shaped = opened (Some d)

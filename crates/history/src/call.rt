@@ -26,7 +26,7 @@ pub enum Answer {
     Shaped,
     /// To a frame: a packet came into its empty slot.
     Fresh,
-    /// To a frame: this very packet was held already.
+    /// To a frame: this very packet was held already, or this very shape was set already.
     Known,
     /// To a repair: the block is whole, and so many packets had been missing.
     Whole { restored: usize },

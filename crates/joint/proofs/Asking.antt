@@ -1,10 +1,11 @@
 -- A list of calls with one more at its end.
-use Rattle.std.proofs.Common.{◌≡◌, ℕ, zero, suc, ◌<◌, inl, inr, List, [], ◌∷◌, ◌++◌, length, Some, sym, refl, ap, ◌∙◌, subst, arith, length-append}
+use Rattle.std.proofs.Common.{◌≡◌, ℕ, zero, suc, ◌+◌, ◌<◌, ◌≤◌, inl, inr, List, [], ◌∷◌, ◌++◌, length, Some, sym, refl, ap, ◌∙◌, subst, arith, length-append}
 use Rattle.std.proofs.lemmas.Bool.{cases_lt}
 use Rattle.std.proofs.lemmas.Option.{same_Some, slice_get_within}
 use Rattle.std.specs.List.{slice_get}
 use Rattle.history.specs.declared.call.Entry.{Entry}
-use Rattle.joint.specs.Asked.{AtEach}
+use Rattle.joint.specs.declared.head_end.HeadEnd.{HeadEnd}
+use Rattle.joint.specs.Asked.{AtEach, AsksTurn, InTurns}
 
 get_front : (es : List Entry) (y : Entry) (k : ℕ) → k < length es → slice_get (es ++ y ∷ []) k ≡ slice_get es k
 get_front [] y k lt = absurd (omega arith)
@@ -27,3 +28,12 @@ at_each_push P es y h p k e q = elim (cases_lt k (length es)) [
       let same : y ≡ e = same_Some _ _ (sym (get_last es y) ∙ ap (slice_get (es ++ y ∷ [])) is ∙ q) in
       subst (λ k. P k e) is (subst (P (length es)) same p)
 ]
+
+-- one turn more, in which a frame arrives or not
+pub in_turns_push : (h : HeadEnd) (from turn : ℕ) (es : List Entry) (e : Entry) → from ≤ turn → InTurns h from turn es → AsksTurn h turn e → InTurns h from (turn + 1) (es ++ e ∷ [])
+in_turns_push h from turn [] e le none asks = (turn, le, omega arith, asks, tt)
+in_turns_push h from turn (x ∷ es) e le (t, lo, up, its, rest) asks = (t, lo, omega arith, its, in_turns_push h (t + 1) turn es e (omega arith) rest asks)
+
+pub in_turns_skip : (h : HeadEnd) (from turn : ℕ) (es : List Entry) → InTurns h from turn es → InTurns h from (turn + 1) es
+in_turns_skip h from turn [] none = tt
+in_turns_skip h from turn (x ∷ es) (t, lo, up, its, rest) = (t, lo, omega arith, its, in_turns_skip h (t + 1) turn es rest)

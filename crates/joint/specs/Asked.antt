@@ -1,5 +1,5 @@
 -- What a board is asked: to take the frames that arrive, to repair every block, and to give every packet.
-use Rattle.std.specs.Prelude.{◌≡◌, ℕ, ◌+◌, ◌<◌, ◌≤◌, List, ◌++◌, length, Some, slice_get}
+use Rattle.std.specs.Prelude.{◌≡◌, ℕ, ◌+◌, ◌<◌, ◌≤◌, List, [], ◌∷◌, ◌++◌, length, Some, slice_get}
 use Rattle.layout.specs.declared.shape.Shape.{Shape}
 use Rattle.layout.specs.Sizes.{parity_of, Packets}
 use Rattle.frame.specs.Frames.{parse}
@@ -16,13 +16,15 @@ use Rattle.joint.specs.declared.head_end.HeadEnd.{HeadEnd}
 abbrev pub AtEach : (ℕ → Entry → Type 0) → List Entry → Type 0
 AtEach P entries = (k : ℕ) (e : Entry) → slice_get entries k ≡ Some e → P k e
 
--- to take the frame that a head-end sends in a turn, once the board is awake
-pub record AsksFrame (h : HeadEnd) (late k : ℕ) (e : Entry) : Type 0 where
+-- to take the frame that a head-end sends in a turn
+pub record AsksTurn (h : HeadEnd) (turn : ℕ) (e : Entry) : Type 0 where
   pub call : e.call ≡ Take
-  pub turn : ℕ
-  pub awake : late ≤ turn
-  pub within : turn < turns_of h.shape
   pub frame : parse e.run.items ≡ sent (sends h) (frame_in turn)
+
+-- to take frames in the order of their turns, from one turn up to another
+abbrev pub InTurns : HeadEnd → ℕ → ℕ → List Entry → Type 0
+InTurns h from end [] = Unit {0}
+InTurns h from end (e ∷ entries) = (turn : ℕ) × (from ≤ turn) × (turn < end) × AsksTurn h turn e × InTurns h (turn + 1) end entries
 
 -- to repair block k, with a work run of its length
 pub record AsksRepair (s : Shape) (k : ℕ) (e : Entry) : Type 0 where
@@ -48,6 +50,6 @@ pub record Asked (h : HeadEnd) (b : Board) : Type 0 where
   pub fetches : List Entry
   pub entries_are : b.entries.items ≡ frames ++ (repairs ++ fetches)
   pub heard : length frames ≡ b.heard
-  pub taken : AtEach (AsksFrame h b.link.late) frames
+  pub taken : InTurns h b.link.late (turns_of h.shape) frames
   pub repaired : Repairs h.shape repairs
   pub fetched : FetchesAll h.shape fetches

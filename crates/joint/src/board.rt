@@ -1,5 +1,5 @@
 //! One board: what it is asked, and what it answered.
-ghost use Rattle.std.specs.Prelude.{◌≡◌, ◌↔◌, IsTrue, IfOk, None, drop, slice_get};
+ghost use Rattle.std.specs.Prelude.{◌≡◌, ◌↔◌, IsTrue, IsOk, IfOk, None, drop, slice_get};
 ghost use Rattle.refusal.specs.Numbers.{refused_with};
 ghost use Rattle.sender.specs.Sending.{sending_of};
 ghost use Rattle.joint.specs.Asked.{Asked};
@@ -75,7 +75,7 @@ impl Board {
         })
     }
 
-    /// Refused with the first refusal among the answers, if there is one but of frames that came before any shape.
+    /// Refused with the first refusal among the answers; that of a frame which came before any shape is passed over.
     pub fn check(&self) -> Result<(), Refusal>
         ensures { refused_with result ≡ first_refusal self.now.entries.items }
     {
@@ -89,9 +89,9 @@ impl Board {
         Ok(())
     }
 
-    /// Fails if the board was refused anything but frames that came before any shape.
+    /// Fails exactly if the board was refused anything but frames that came before any shape.
     pub fn require(&self) -> anyhow::Result<()>
-        ensures { IfOk result (λ u. first_refusal self.now.entries.items ≡ None) }
+        ensures { IsOk result ↔ (first_refusal self.now.entries.items ≡ None) }
     {
         let name = self.name;
         match self.check() {

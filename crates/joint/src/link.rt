@@ -1,4 +1,4 @@
-//! A link to a board, which loses about one packet in eight, in an order fixed by its seed, and every frame until the board wakes.
+//! A link to a board, which loses about one packet in eight, in an order fixed by its seed, and when the board wakes.
 ghost use Rattle.std.specs.Prelude.{◌≡◌, ◌≤◌, IfOk, false};
 ghost use Rattle.layout.specs.Sizes.{parity_of};
 

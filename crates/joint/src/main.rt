@@ -18,7 +18,7 @@ use layout::shape::{Dimensions, Shape};
 use link::Link;
 use receiver::take::format_for;
 use refusal::Refusal;
-use sender::broadcast::turns;
+use sender::broadcast::{PACKETS, turns};
 use sender::numbering::frames;
 use std::alloc::Global;
 use std::process::ExitCode;
@@ -90,7 +90,7 @@ fn announce(
     let packets = frames(shape) - 1;
     let repeats = turns(shape) - frames(shape);
     println!(rt;
-        "broadcast: the shape, then {packets} packets, and behind every 50 of them the shape again; repeats: {repeats}"
+        "broadcast: the shape, then {packets} packets, and behind every {PACKETS} of them the shape again; repeats: {repeats}"
     )?;
     if late > 0 {
         println!(rt; "the tabled board wakes after {late} frames")?;

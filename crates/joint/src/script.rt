@@ -1,6 +1,7 @@
 //! What a board is asked: to take the frames that arrive, to repair every block, and to give every packet.
 ghost use Rattle.std.specs.Prelude.{IfOk};
-ghost use Rattle.joint.specs.Asked.{AtEach, AsksFrame, Repairs, FetchesAll};
+ghost use Rattle.sender.specs.Broadcast.{turns_of};
+ghost use Rattle.joint.specs.Asked.{InTurns, Repairs, FetchesAll};
 
 use crate::head_end::HeadEnd;
 use crate::link::Link;
@@ -12,8 +13,8 @@ use std::alloc::Global;
 
 /// To take each frame that goes out once the board is awake, and that the link does not lose, in the order of the broadcast.
 pub fn takes(heap: Global, head_end: &HeadEnd, link: &Link) -> anyhow::Result<Vec<Entry>>
-    ensures { IfOk result
-        (λ entries. AtEach (AsksFrame head_end.now link.now.late) entries.items) }
+    ensures { IfOk result (λ entries. InTurns head_end.now
+        link.now.late (turns_of head_end.now.shape) entries.items) }
 {
     let shape = head_end.shape();
     let mut entries = Vec::new(heap);

@@ -37,11 +37,11 @@ pub struct Receiver<F: Arithmetic, S: SlotStore> {
 /// What a frame did.
 #[derive(Clone, Copy, PartialEq, Eq, Debug)]
 pub enum Taken {
-    /// A shape was set, and every slot is empty.
+    /// A shape is set now, and every slot is empty.
     Shaped,
     /// The packet was put into its slot.
     Fresh,
-    /// The slot held this very packet.
+    /// The slot held this very packet, or this very shape was set already; nothing changed.
     Known,
 }
 

@@ -1,8 +1,9 @@
 //! Frames in.
-ghost use Rattle.std.specs.Prelude.{◌≡◌, ◌≤◌, length, IfOk, Some};
+ghost use Rattle.std.specs.Prelude.{◌≡◌, ◌≤◌, true, length, IfOk, Some};
 ghost use Rattle.refusal.specs.Numbers.{refused_with};
 ghost use Rattle.layout.specs.Sizes.{packet_of};
-ghost use Rattle.frame.specs.Frames.{parse};
+ghost use Rattle.layout.specs.declared.shape.Dimensions.{Dimensions};
+ghost use Rattle.frame.specs.Frames.{shape, parse};
 ghost use Rattle.store.specs.Calls.{refusal_of_get};
 ghost use Rattle.receiver.specs.Meaning.{StaysShut, means};
 ghost use Rattle.receiver.specs.Calls.{is_set, start_refusal, Started, slot_holds, packet_refusal, TookPacket, take_refusal, Took};
@@ -100,6 +101,8 @@ impl<F: Arithmetic, S: SlotStore> Receiver<F, S> {
         ensures answer { refused_with result
             ≡ take_refusal F.Arithmetic.bits (means self.old) (parse words.now) }
         ensures after { Took (means self.old) (parse words.now) result (means self.new) }
+        ensures again { (d : Dimensions) → parse words.now ≡ shape d
+            → is_set self.old.shape d ≡ true → self.new ≡ self.old }
         ensures shut { StaysShut self.old self.new }
     {
         match (self.shape, Frame::try_from(words)?) {

@@ -30,6 +30,8 @@ pub record InOrder (s : Shape) : Type 0 where
   -- the shape's frame goes out first, and then just behind every fiftieth packet frame
   pub first : frame_in 0 ≡ 0
   pub again : (turn : ℕ) → (frame_in (turn + 1) ≡ 0) ↔ Fiftieth (frame_in turn)
+  -- also behind the last packet frame, if that is a fiftieth
+  pub behind : (turn : ℕ) → turn < turns_of s → Fiftieth (frame_in turn) → turn + 1 < turns_of s
   -- every packet frame goes out once, in the order of their numbers, and nothing else does
   pub each : (f : ℕ) → 1 ≤ f → f ≤ last_frame s → GoesOnce s f
   pub ascends : (u v : ℕ) → u < v → 1 ≤ frame_in u → 1 ≤ frame_in v → frame_in u < frame_in v

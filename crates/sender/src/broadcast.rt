@@ -7,11 +7,11 @@ use crate::numbering::frames;
 use layout::shape::Shape;
 use refusal::Refusal;
 
-// After so many packet frames the shape's frame goes out again, for boards that woke late.
-const PACKETS: usize = 50;
+/// After so many packet frames the shape's frame goes out again, for boards that woke late.
+pub const PACKETS: usize = 50;
 
 /// How many turns a broadcast has: one for the shape's frame, one for each packet frame, and one for the shape's frame again
-/// behind every fiftieth of them, the last too.
+/// behind every fiftieth of them, also where that is the last.
 pub fn turns(shape: &Shape) -> usize
     ensures value { result ≡ turns_of shape.now }
     ensures bound { result ≤ 66782 }

@@ -1,16 +1,18 @@
 //! The head-end's side of a transmission: parity for an image, and the frames that carry both.
 //!
 //! [`prepare::prepare`] fills the parity words of all blocks. A [`Transmission`] gives the words of any frame, number 0 being
-//! the shape and every other one a packet; [`numbering`] says how many frames there are, and what each carries.
+//! the shape and every other one a packet; [`numbering`] says how many frames there are, and what each carries, and [`broadcast`]
+//! in which order they go out, the shape's again after every fifty packets.
 //!
 //! ```
 //! let mut parity = vec![in heap; 0; shape.blocks() * shape.parity() * shape.packet()]?;
 //! prepare::<TabledOctet>(&shape, &image, &mut parity)?;
 //! let sent = Transmission { shape: &shape, image: &image, parity: &parity };
 //! let mut run = vec![in heap; 0; 1 + shape.packet()]?;
-//! sent.frame(&mut run[..2], 0)?; // the shape
-//! for number in 1..frames(&shape) {
-//!     sent.frame(&mut run, number)?;
+//! for turn in 0..turns(&shape) {
+//!     let number = frame_of(&shape, turn)?;
+//!     let length = if number == 0 { 2 } else { 1 + shape.packet() };
+//!     sent.frame(&mut run[..length], number)?;
 //! }
 //! ```
 #![tactic(auto)]
