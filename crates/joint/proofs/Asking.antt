@@ -29,11 +29,14 @@ at_each_push P es y h p k e q = elim (cases_lt k (length es)) [
       subst (λ k. P k e) is (subst (P (length es)) same p)
 ]
 
--- one turn more, in which a frame arrives or not
-pub in_turns_push : (h : HeadEnd) (from turn : ℕ) (es : List Entry) (e : Entry) → from ≤ turn → InTurns h from turn es → AsksTurn h turn e → InTurns h from (turn + 1) (es ++ e ∷ [])
-in_turns_push h from turn [] e le none asks = (turn, le, omega arith, asks, tt)
-in_turns_push h from turn (x ∷ es) e le (t, lo, up, its, rest) asks = (t, lo, omega arith, its, in_turns_push h (t + 1) turn es e (omega arith) rest asks)
+-- frames up to one turn are frames up to a later one
+pub in_turns_more : (h : HeadEnd) (from last end : ℕ) (es : List Entry) → last ≤ end → InTurns h from last es → InTurns h from end es
+in_turns_more h from last end [] le none = tt
+in_turns_more h from last end (x ∷ es) le (t, lo, up, its, rest) = (t, lo, omega arith, its, in_turns_more h (t + 1) last end es le rest)
 
-pub in_turns_skip : (h : HeadEnd) (from turn : ℕ) (es : List Entry) → InTurns h from turn es → InTurns h from (turn + 1) es
-in_turns_skip h from turn [] none = tt
-in_turns_skip h from turn (x ∷ es) (t, lo, up, its, rest) = (t, lo, omega arith, its, in_turns_skip h (t + 1) turn es rest)
+-- the frame of a later turn behind them
+pub in_turns_push : (h : HeadEnd) (from last turn end : ℕ) (es : List Entry) (e : Entry) → from ≤ turn → last ≤ turn → turn < end → InTurns h from last es → AsksTurn h turn e
+    → InTurns h from end (es ++ e ∷ [])
+in_turns_push h from last turn end [] e le behind within none asks = (turn, le, within, asks, tt)
+in_turns_push h from last turn end (x ∷ es) e le behind within (t, lo, up, its, rest) asks =
+    (t, lo, omega arith, its, in_turns_push h (t + 1) last turn end es e (omega arith) behind within rest asks)
