@@ -1,7 +1,7 @@
 -- Lists of positions, by their places.
-use Rattle.std.proofs.Common.{◌≡◌, ℕ, zero, suc, ◌+◌, ◌-◌, ◌<◌, ◌≤◌, Bool, true, false, eqb, ltb, List, length, Some, None, Option, Bor, get_or, sym, ap, ◌∙◌, inl, inr, arith}
+use Rattle.std.proofs.Common.{◌≡◌, ℕ, zero, suc, ◌+◌, ◌-◌, ◌<◌, ◌≤◌, Bool, true, false, true≢false, ◌&&◌, eqb, ltb, ltb-true, lt-ltb, add-one, refl, List, length, Some, None, Option, Bor, get_or, sym, ap, ◌∙◌, inl, inr, arith}
 use Rattle.std.specs.Option.{MatchOption}
-use Rattle.std.specs.List.{AllWithin, HoldsAt, IsAllAdjacentAnswer, IsAnyAnswer}
+use Rattle.std.specs.List.{HoldsAt, IsAllAdjacentAnswer, IsAnyAnswer}
 use Rattle.std.proofs.lemmas.Bool.{cases_eq}
 use Rattle.algebra.specs.Code.{among}
 use Rattle.algebra.proofs.Marks.{among_at, among_off}
@@ -16,10 +16,20 @@ ascends_by_steps xs step i (suc j) lt le =
       | inr e ↦ let h = ascends_by_steps xs step i j (omega arith) (omega arith) in grind arith
     ]
 
--- positions that all lie below an end are in order just when each is below the next
-pub ordered_by_steps : (xs : List ℕ) (end : ℕ) (r : Bool) → AllWithin (λ x. x < end) xs 0 (length xs) → IsAllAdjacentAnswer (λ x y b. b ≡ ltb x y) xs r → Ordered xs end r
-ordered_by_steps xs end true below steps = (ascends_by_steps xs (λ k h. let t = steps k 0 h in grind arith), λ i h. below i 0 (omega arith) h)
-ordered_by_steps xs end false below steps = λ o. let (k, h, f) = steps in let lt = o.0 k (k + 1) (omega arith) h in let e = f 0 in grind arith
+below_by_steps : (xs : List ℕ) (end : ℕ) → (0 < length xs → get_or xs 0 0 < end) → ((k : ℕ) → k + 1 < length xs → get_or xs (k + 1) 0 < end) → (i : ℕ) → i < length xs → get_or xs i 0 < end
+below_by_steps xs end first step zero lt = first lt
+below_by_steps xs end first step (suc i) lt = rw (sym (add-one i)) (step i (omega arith))
+
+-- positions are in order just when the first lies below an end, and of any two neighbours the second lies above the first and below the end
+both_true : (a b : Bool) → true ≡ (a && b) → (a ≡ true) × (b ≡ true)
+both_true true b e = (refl, sym e)
+both_true false b e = absurd (true≢false e)
+
+pub ordered_by_steps : (xs : List ℕ) (end : ℕ) (r : Bool) → (0 < length xs → get_or xs 0 0 < end) → IsAllAdjacentAnswer (λ x y b. b ≡ (ltb x y && ltb y end)) xs r → Ordered xs end r
+ordered_by_steps xs end true first steps =
+    (ascends_by_steps xs (λ k h. ltb-true _ _ (both_true _ _ (steps k 0 h)).0), below_by_steps xs end first (λ k h. ltb-true _ _ (both_true _ _ (steps k 0 h)).1))
+ordered_by_steps xs end false first steps = λ o. let (k, h, f) = steps in let lt = o.0 k (k + 1) (omega arith) h in let b = o.1 (k + 1) h in let e = f 0 in
+    absurd (true≢false (sym (rw (lt-ltb _ _ lt, lt-ltb _ _ b) at e)))
 
 -- whether a position is among the positions of a list
 pub among_by_any : (p : ℕ → ℕ) (xs : List ℕ) (q : ℕ) (r : Bool) → ((s : ℕ) → s < length xs → get_or xs s 0 ≡ p s) → IsAnyAnswer (λ y b. eqb y q ≡ b) xs r → r ≡ among p (length xs) q

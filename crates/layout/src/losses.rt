@@ -12,7 +12,7 @@ use std::array;
 fn ordered(positions: &[usize], end: usize) -> bool
     ensures { Ordered positions.now end result }
 {
-    positions.iter().all(|p| *p < end) && positions.is_sorted_by(|p, q| p < q)
+    positions.first().is_none_or(|p| *p < end) && positions.is_sorted_by(|p, q| p < q && *q < end)
 }
 
 /// At most 32 lost positions of a block, strictly ascending.
