@@ -1,11 +1,12 @@
 -- The rows of the matrices of field elements, as numbers.
-use Rattle.std.proofs.Common.{◌≡◌, ℕ, zero, suc, ◌+◌, ◌*◌, ◌^◌, ◌<◌, ◌≤◌, List, sym, refl, ap, ap₂, ◌∙◌, one-mul, zero-mul, arith}
+use Rattle.std.proofs.Common.{◌≡◌, ℕ, zero, suc, ◌+◌, ◌*◌, ◌^◌, ◌<◌, ◌≤◌, List, sym, refl, ap, ap₂, ◌∙◌, add-one, one-mul, zero-mul, arith}
+use native.Mathlib.Nat.{pow-suc}
 use native.Mathlib.Decide.{ℕ_discrete}
 use lib.Bits.{bit_xor, xor_lt, xor_self, xor_zero_l, xor_zero_r}
 use lib.Pow.{pow_pos, pow-lt}
 use Rattle.galois.specs.Field.{FieldLaws}
 use Rattle.galois.proofs.Linear.{digit_lt, sum_digit}
-use Rattle.galois.proofs.Powers.{power_alpha}
+use Rattle.galois.proofs.Powers.{power_alpha, two_lt}
 use Rattle.algebra.specs.Code.{Code, Packet, SamePacket, xors, bit, scaled}
 use Rattle.layout.specs.Blocks.{packet_in, block_at, size_of}
 use Rattle.algebra.specs.Laws.{Laws, sum}
@@ -119,6 +120,16 @@ module _ {m : ℕ} {prod : ℕ → ℕ → ℕ} {inv : ℕ → ℕ} (K : FieldLa
       xors_ext m _ _ (λ j l. ap (λ u. u * matrix_row m prod x j) (row_bit a i j l))
       ∙ sym (rows_acted a (act words m prod x unit) (matrix_row m prod x) (λ j l. acted x j l) i h)
       ∙ ap (λ u. u i h) (sym (laws.act_mul a x unit ha hx)) ∙ acted (prod a x) i h
+
+  -- the matrix of 2^(n + 1) is that of 2^n times that of α
+  pub row_next : (n i : ℕ) → n + 1 < m → i < m → selected m (matrix_row m prod (2 ^ n) i) (λ j c. matrix_row m prod 2 j) 0 ≡ matrix_row m prod (2 ^ (n + 1)) i
+  row_next n i l h =
+      let e : 2 ^ suc n ≡ 2 ^ n * 2 = pow-suc 2 n in
+      let up : 2 ^ suc n < 2 ^ m = pow-lt (omega arith) in
+      let small : 2 ^ n * 2 < 2 ^ m = rw e at up in
+      let lt : 2 ^ n < 2 ^ m = omega arith in
+      rows_times (2 ^ n) 2 i 0 lt (two_lt K) h
+      ∙ ap (λ a. matrix_row m prod a i) (K.comm (2 ^ n) 2 lt (two_lt K) ∙ K.doubles (2 ^ n) small ∙ sym e ∙ ap (λ (k : ℕ). 2 ^ k) (sym (add-one n)))
 
 -- a row of the matrix of a selects that row of a times a packet
 pub selected_scaled : (C : Code) {inv : ℕ → ℕ} (K : FieldLaws C.rows C.product inv) (a i c : ℕ) (p : Packet)

@@ -133,12 +133,15 @@ impl<F: Arithmetic> Code<F> {
         requires element { x < 2 ^ F.Arithmetic.bits }
         ensures { AbsorbedFrom (code self.now) first x packet.now sums.old sums.new }
     {
+        let (next, power) = self.add_plain(sums, first, x, packet);
+        if next == self.shape.parity() {
+            return;
+        }
         let m = F::width() as usize;
         let p = m * w;
         fill(w, m, packet, table);
         let mut rows = [0; 36];
         fill(1, m, &self.matrices.of(x)[..m], &mut rows);
-        let (next, power) = self.add_plain(sums, first, x, packet);
         let mut matrix = self.matrices.of(power);
         for sum in next..self.shape.parity() {
             add_rows_and_step(
@@ -286,8 +289,19 @@ impl<F: Arithmetic> Code<F> {
         match self.shape.words() {
             1 => self.add_held::<1>(sums, first, run, start, losses),
             2 => self.add_held::<2>(sums, first, run, start, losses),
+            3 => self.add_held::<3>(sums, first, run, start, losses),
             4 => self.add_held::<4>(sums, first, run, start, losses),
+            5 => self.add_held::<5>(sums, first, run, start, losses),
+            6 => self.add_held::<6>(sums, first, run, start, losses),
+            7 => self.add_held::<7>(sums, first, run, start, losses),
             8 => self.add_held::<8>(sums, first, run, start, losses),
+            9 => self.add_held::<9>(sums, first, run, start, losses),
+            10 => self.add_held::<10>(sums, first, run, start, losses),
+            11 => self.add_held::<11>(sums, first, run, start, losses),
+            12 => self.add_held::<12>(sums, first, run, start, losses),
+            13 => self.add_held::<13>(sums, first, run, start, losses),
+            14 => self.add_held::<14>(sums, first, run, start, losses),
+            15 => self.add_held::<15>(sums, first, run, start, losses),
             16 => self.add_held::<16>(sums, first, run, start, losses),
             _ => self.add_held::<0>(sums, first, run, start, losses),
         }

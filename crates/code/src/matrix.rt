@@ -1,7 +1,8 @@
 //! The matrices of the elements of a field, by rows: a row is a number, whose bit j is the row's entry in column j.
 ghost use Rattle.std.specs.Prelude.{◌≡◌, ℕ, ◌%◌, ◌*◌, ◌^◌, ◌<◌, ◌≤◌, length, slice_index};
-ghost use Rattle.algebra.specs.Code.{bit, xors};
+ghost use Rattle.algebra.specs.Code.{Packet, bit, xors};
 ghost use Rattle.code.specs.Matrices.{Columns, ElementTable, MatrixOf};
+ghost use Rattle.code.specs.Subsets.{RowTable, selected};
 
 use crate::subsets::{add_selected, fill};
 use field::Arithmetic;
@@ -40,6 +41,20 @@ fn write_matrix<F: Arithmetic>(a: u32, matrix: &mut [u32])
     }
 }
 
+// Multiplies a matrix by another, of which `rows` is the table: a row of the first picks of the rows of the second.
+fn step(m: usize, rows: &[u32; 36], matrix: &mut [u32; 10])
+    requires m { m ≤ 10 }
+    requires matrix { (i : ℕ) → i < m → slice_index matrix.old i < 2 ^ m }
+    ensures { (q : Packet) → RowTable m 1 q rows.now → (i : ℕ) → i < m
+        → slice_index matrix.new i ≡ selected m (slice_index matrix.old i) q 0 }
+{
+    for i in 0..m {
+        let mut next = [0];
+        add_selected(1, m, rows, matrix[i], &mut next);
+        matrix[i] = next[0];
+    }
+}
+
 // The matrices of the powers of α that stand for single bits, added up by fours: that of an element is the sum of two or three.
 #[derive(Drop)]
 pub(crate) struct Matrices<F: Arithmetic> {
@@ -49,12 +64,19 @@ pub(crate) struct Matrices<F: Arithmetic> {
 }
 
 impl<F: Arithmetic> Matrices<F> {
-    // The matrices of a field.
+    // The matrices of a field, each by α times the one before: all products that this takes are those of two matrices.
     pub(crate) fn new() -> Matrices<F> {
         let m = F::width() as usize;
+        let mut by_alpha = [0; 10];
+        write_matrix::<F>(2, &mut by_alpha[..m]);
+        let mut rows = [0; 36];
+        fill(1, m, &by_alpha[..m], &mut rows);
+        let mut matrix = [0; 10];
+        write_matrix::<F>(1, &mut matrix[..m]);
         let mut matrices = [0; 100];
         for j in 0..m {
-            write_matrix::<F>(1 << j, &mut matrices[j * m..j * m + m]);
+            matrices[j * m..j * m + m].copy_from_slice(&matrix[..m]);
+            step(m, &rows, &mut matrix);
         }
         let mut table = [0; 360];
         fill(m, m, &matrices[..m * m], &mut table);
