@@ -6,7 +6,7 @@ use layout::losses::LossList;
 use layout::shape::Shape;
 use refusal::Refusal;
 use sender::broadcast::{frame_of, turns};
-use sender::numbering::{frames, place};
+use sender::numbering::place;
 use std::alloc::Global;
 
 // Pseudo-random numbers, each made from the one before by shifts and exclusive ors.
@@ -101,9 +101,10 @@ impl Link {
     /// board hears the shape.
     pub fn lost(&self, heap: Global, block: usize) -> anyhow::Result<Vec<usize>> {
         let mut lost = Vec::new(heap);
-        for number in 1..frames(&self.shape) {
-            let (of, position) = place(&self.shape, number)?;
-            if of == block && (number <= self.missed || self.loses(number)?) {
+        for position in 0..self.shape.positions() {
+            // The number of its frame: the blocks take turns.
+            let number = (1 + position * self.shape.blocks()).saturating_add(block);
+            if number <= self.missed || self.dropped(block).contains(&position) {
                 lost.push(position)?;
             }
         }
